@@ -1,0 +1,6 @@
+pub mod Lawful
+pub mod Locks
+pub mod Maps
+pub mod Records
+pub mod Survivors
+pub mod Words
