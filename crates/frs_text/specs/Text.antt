@@ -1,0 +1,81 @@
+-- What is printed: words with escapes, and the transcript.
+use Rattle.std.specs.Prelude.{ℕ, ◌/◌, ◌%◌, Bool, true, false, not, ◌&&◌, ◌==◌, nat_le, List, [], ◌∷◌, ◌++◌, flat_map, find, length, option_map, unwrap_or, slice_index_or, if◌then◌else◌, codes, decimal}
+use Rattle.std.specs.Fmt.{digit_glyph}
+use Rattle.std.specs.List.{join_with_byte}
+use Rattle.frs_history.specs.declared.event.Ack.{Ack}
+use Rattle.frs_history.specs.declared.command.Command.{Command}
+use Rattle.frs_history.specs.declared.command.Command.TheVariants as command
+use Rattle.frs_history.specs.declared.event.Event.{Event}
+use Rattle.frs_history.specs.declared.command.Line.{Line}
+use Rattle.frs_history.specs.declared.event.Reply.{Reply}
+use Rattle.frs_history.specs.declared.event.Reply.TheVariants as reply
+use Rattle.frs_history.specs.declared.event.What.{What}
+use Rattle.frs_history.specs.declared.event.What.TheVariants as what
+use Rattle.frs_history.specs.Machine.{Scripts}
+
+-- ---- words and lines
+
+abbrev pub Text : Type 0
+Text = List ℕ
+
+-- the bytes 21 to 7E other than `%` as they are, every other byte as `%` and two digits
+abbrev pub is_plain : ℕ → Bool
+is_plain byte = nat_le 0x21 byte && nat_le byte 0x7E && not (byte == 0x25)
+
+abbrev pub shown_byte : ℕ → Text
+shown_byte byte = if is_plain byte then byte ∷ [] else 0x25 ∷ digit_glyph true (byte / 16) ∷ digit_glyph true (byte % 16) ∷ []
+
+-- no bytes are shown as `%`
+abbrev pub word : List ℕ → Text
+word [] = 0x25 ∷ []
+word (byte ∷ bytes) = flat_map shown_byte (byte ∷ bytes)
+
+-- words with one space between them, and a line feed
+abbrev pub words : List Text → Text
+words ws = join_with_byte 32 ws
+
+abbrev pub line : List Text → Text
+line ws = words ws ++ 10 ∷ []
+
+-- ---- the transcript
+
+abbrev pub command_words : Command → List Text
+command_words (command.Begin true) = codes "begin" ∷ []
+command_words (command.Begin false) = codes "begin" ∷ codes "async" ∷ []
+command_words (command.Put id key value) = codes "put" ∷ word id ∷ word key ∷ word value ∷ []
+command_words (command.Remove id key) = codes "remove" ∷ word id ∷ word key ∷ []
+command_words (command.Delete id) = codes "delete" ∷ word id ∷ []
+command_words (command.Get id key) = codes "get" ∷ word id ∷ word key ∷ []
+command_words command.Commit = codes "commit" ∷ []
+command_words command.Snapshot = codes "snapshot" ∷ []
+
+abbrev pub reply_words : Reply → List Text
+reply_words reply.Done = codes "done" ∷ []
+reply_words reply.Absent = codes "none" ∷ []
+reply_words (reply.Found value) = codes "value" ∷ word value ∷ []
+reply_words reply.Deadlock = codes "deadlock" ∷ []
+reply_words reply.Abandoned = codes "abandoned" ∷ []
+reply_words (reply.Snapshot number) = codes "snapshot" ∷ decimal number ∷ []
+
+-- the words of the command at that line of the client's script
+abbrev pub words_at : Scripts → ℕ → ℕ → List Text
+words_at scripts c number =
+    unwrap_or (option_map (λ (l : Line). command_words l.command) (find (λ (l : Line). l.number == number) (slice_index_or ([] ∷ scripts) c []))) []
+
+-- what is said between the line's number and the arrow, and what behind the arrow
+abbrev pub said_by : Scripts → ℕ → ℕ → What → List Text × List Text
+said_by scripts c number (what.Answered r) = (words_at scripts c number, reply_words r)
+said_by scripts c number what.Waits = (words_at scripts c number, codes "waits" ∷ [])
+said_by scripts c number (what.Reappend id key) = (codes "reappend" ∷ word id ∷ word key ∷ [], codes "done" ∷ [])
+said_by scripts c number what.End = (codes "end" ∷ [], codes "abandoned" ∷ [])
+
+abbrev pub event_line : Scripts → Event → Text
+event_line scripts e = let said = said_by scripts e.client e.line e.what in
+    line (decimal e.client ∷ decimal e.line ∷ said.0 ++ codes "->" ∷ said.1)
+
+abbrev pub ack_line : Ack → Text
+ack_line a = line (codes "durable" ∷ decimal a.client ∷ decimal a.line ∷ [])
+
+-- the events in order, the acknowledgements in the order in which they were made, and the last line
+abbrev pub transcript : Scripts → List Event → List Ack → Text → Text
+transcript scripts events acks last = flat_map (event_line scripts) events ++ flat_map ack_line acks ++ last
