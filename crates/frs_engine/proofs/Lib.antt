@@ -1,1 +1,2 @@
--- No lemma yet.
+-- Lemmas on plain scripts.
+mod PlainLines

@@ -1,2 +1,6 @@
 //! The top calls of the store: they run scripts against a disk, and carry its promise.
 #![tactic(auto)]
+
+mod plain;
+
+pub use plain::PlainFault;
