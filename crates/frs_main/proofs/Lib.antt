@@ -1,0 +1,2 @@
+-- Lemmas on what the real forms answer.
+mod Rising

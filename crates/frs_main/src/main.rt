@@ -1,0 +1,11 @@
+//! The program `frs`: a restartable store in a folder.
+#![tactic(auto)]
+
+mod cause;
+mod folder;
+
+use std::io;
+
+fn main(rt: HostRuntime) -> io::Result<()> {
+    println!(rt; "later")
+}
