@@ -1,0 +1,48 @@
+-- The bytes of a record: its kind, its three numbers and what its action holds. Numbers are big-endian.
+use Rattle.std.specs.Prelude.{ℕ, List, [], ◌∷◌, ◌++◌, length, take, drop}
+use Rattle.std.specs.Int.{Width, w8, w16, w64, to_be_bytes}
+use Rattle.frs_types.specs.declared.record.Action.{Action}
+use Rattle.frs_types.specs.declared.record.Action.TheVariants.{Put, Remove, Delete, Begin, Commit, Compaction, Mark, Abandon}
+use Rattle.frs_types.specs.declared.record.Record.{Record}
+use Rattle.frs_frame.specs.Kinds.{kind_of, code}
+
+-- the widths of the lengths that stand before words
+abbrev pub id_width : Width
+id_width = w8
+
+abbrev pub key_width : Width
+key_width = w8
+
+abbrev pub value_width : Width
+value_width = w16
+
+-- a word is its length and its bytes
+abbrev pub word_bytes : Width → List ℕ → List ℕ
+word_bytes width word = to_be_bytes width (length word) ++ word
+
+-- what stands behind the head, by the kind
+abbrev pub payload : Action → List ℕ
+payload (Put id key value) = word_bytes id_width id ++ word_bytes key_width key ++ word_bytes value_width value
+payload (Remove id key) = word_bytes id_width id ++ word_bytes key_width key
+payload (Delete id) = word_bytes id_width id
+payload Begin = []
+payload Commit = []
+payload (Compaction id key value) = word_bytes id_width id ++ word_bytes key_width key ++ word_bytes value_width value
+payload Mark = []
+payload Abandon = []
+
+-- the three numbers of the head: the transaction, the lowest and the named LSN
+abbrev pub numbers : ℕ → ℕ → ℕ → List ℕ
+numbers tx lowest named = to_be_bytes w64 tx ++ to_be_bytes w64 lowest ++ to_be_bytes w64 named
+
+-- the bytes of a record
+abbrev pub spelling : Record → List ℕ
+spelling r = code (kind_of r.action) ∷ numbers r.tx r.lowest r.named ++ payload r.action
+
+-- the record of an action with no number yet
+abbrev pub unnumbered : Action → Record
+unnumbered action = record { tx = 0; lowest = 0; named = 0; action = action }
+
+-- the bytes of a record with other numbers in its head
+abbrev pub renumbered : ℕ → ℕ → ℕ → List ℕ → List ℕ
+renumbered tx lowest named bytes = take 1 bytes ++ numbers tx lowest named ++ drop 25 bytes
