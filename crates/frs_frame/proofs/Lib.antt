@@ -1,1 +1,3 @@
 pub mod Renumbering
+pub mod Fields
+pub mod Reading

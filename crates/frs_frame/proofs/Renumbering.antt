@@ -8,6 +8,7 @@ abbrev pub written : ℕ → ℕ → List ℕ → List ℕ
 written at n bytes = take at bytes ++ to_be_bytes w64 n ++ drop (at + 8) bytes
 
 pub renumbered_is : (tx lowest named : ℕ) (bytes : List ℕ) → 25 ≤ length bytes → written 17 named (written 9 lowest (written 1 tx bytes)) ≡ renumbered tx lowest named bytes
+unfolding renumbered
 renumbered_is tx lowest named [] long = absurd (omega arith)
 renumbered_is tx lowest named (b ∷ bytes) long =
     let behind : drop 8 (drop 8 (drop 8 bytes)) ≡ drop 24 bytes = drop-drop 8 8 (drop 8 bytes) ∙ drop-drop 16 8 bytes in

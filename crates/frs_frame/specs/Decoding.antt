@@ -69,12 +69,12 @@ action_at Mark bytes at = Ok (actions.Mark, at)
 action_at Abandon bytes at = Ok (actions.Abandon, at)
 
 -- the kind that the first byte stands for
+abbrev pub kind_or_fault : Option Kind → ℕ × ℕ → Read Kind
+kind_or_fault (Some kind) byte = Ok (kind, byte.1)
+kind_or_fault None byte = Err (faults.Kind byte.0)
+
 unfoldable pub kind_at : List ℕ → Read Kind
-kind_at bytes = number_at w8 bytes 0 >>= λ byte. kind_from (kind_of_byte byte.0) byte
-  where
-    kind_from : Option Kind → ℕ × ℕ → Read Kind
-    kind_from (Some kind) byte = Ok (kind, byte.1)
-    kind_from None byte = Err (faults.Kind byte.0)
+kind_at bytes = number_at w8 bytes 0 >>= λ byte. kind_or_fault (kind_of_byte byte.0) byte
 
 -- the transaction, the lowest and the named LSN, each as the kind allows it
 unfoldable pub head_at : Kind → List ℕ → ℕ → Read Head

@@ -36,7 +36,7 @@ abbrev pub numbers : ℕ → ℕ → ℕ → List ℕ
 numbers tx lowest named = to_be_bytes w64 tx ++ to_be_bytes w64 lowest ++ to_be_bytes w64 named
 
 -- the bytes of a record
-abbrev pub spelling : Record → List ℕ
+unfoldable pub spelling : Record → List ℕ
 spelling r = code (kind_of r.action) ∷ numbers r.tx r.lowest r.named ++ payload r.action
 
 -- the record of an action with no number yet
@@ -44,5 +44,5 @@ abbrev pub unnumbered : Action → Record
 unnumbered action = record { tx = 0; lowest = 0; named = 0; action = action }
 
 -- the bytes of a record with other numbers in its head
-abbrev pub renumbered : ℕ → ℕ → ℕ → List ℕ → List ℕ
+unfoldable pub renumbered : ℕ → ℕ → ℕ → List ℕ → List ℕ
 renumbered tx lowest named bytes = take 1 bytes ++ numbers tx lowest named ++ drop 25 bytes

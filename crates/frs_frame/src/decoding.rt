@@ -1,6 +1,10 @@
 //! Reading records: each function reads one field at an offset, and gives it with the offset behind it.
-ghost use Rattle.std.specs.Prelude.{◌≡◌, ◌+◌, ◌≤◌, length, IfOk};
+ghost use Rattle.std.specs.Prelude.{◌≡◌, ℕ, ◌+◌, ◌≤◌, List, ◌++◌, length, IfOk, IsTrue};
 ghost use Rattle.std.specs.Int.{w8, w16, w64};
+ghost use Rattle.frs_types.specs.declared.record.Record.{Record as Described};
+ghost use Rattle.frs_types.specs.Records.{Fits, well_formed};
+ghost use Rattle.frs_frame.specs.Spelling.{spelling};
+ghost use Rattle.frs_frame.specs.Front.{StandsAtFront};
 ghost use Rattle.frs_frame.specs.Decoding.{Gives, field, number_at, id_at, key_at, value_at, action_at, kind_at, head_at, decoded};
 
 use crate::fault::FrameFault;
@@ -187,7 +191,7 @@ fn head_at(kind: Kind, bytes: &[u8], at: usize) -> Result<(Head, usize), FrameFa
 }
 
 #[tactic(auto, unfolding(crate::specs::Decoding::decoded))]
-fn record_at_front(alloc: Global, bytes: &[u8]) -> Result<(Record, usize), FrameFault>
+fn record_at_front(alloc: Global, bytes: &[u8]) -> Result<(Record, u64), FrameFault>
     ensures { Gives (λ f. (f.0, f.1)) result (decoded bytes.now) }
 {
     let (kind, at) = kind_at(bytes)?;
@@ -200,5 +204,23 @@ fn record_at_front(alloc: Global, bytes: &[u8]) -> Result<(Record, usize), Frame
         named,
         action,
     };
-    Ok((record, end))
+    Ok((record, end as u64))
+}
+
+/// The record at the front of the bytes, and its length. Reads the fields from left to right, and tests each before
+/// the next one: its kind has to allow it. For a begin only that its transaction isn't 0 is asked for; that a record's
+/// numbers suit its place in the log is for the caller to see.
+///
+/// `FrameFault` is the first fault. Nothing is taken from memory for bytes that aren't there.
+pub fn decode(alloc: Global, bytes: &[u8]) -> Result<(Record, u64), FrameFault>
+    // What is read stands at the front, and is allowed.
+    ensures found { IfOk result (λ x. StandsAtFront bytes.now x.0 x.1) }
+
+    // What stands at the front and is allowed is read, unless memory runs out.
+    ensures only { (r : Described) (rest : List ℕ) → Fits r → IsTrue (well_formed r) → bytes.now ≡ spelling r ++ rest → Gives (λ x. x) result (Ok (r, length (spelling r))) }
+
+    // Which fault it is.
+    ensures exact { Gives (λ x. x) result (decoded bytes.now) }
+{
+    record_at_front(alloc, bytes)
 }

@@ -44,6 +44,7 @@ impl Framed {
     }
 
     /// Sets the transaction, the lowest and the named LSN, and nothing else. Takes no memory.
+    #[tactic(auto, unfolding(crate::specs::Spelling::renumbered, crate::specs::Spelling::spelling))]
     pub fn patch(&mut self, tx: u64, lowest: u64, named: u64)
         ensures set { self.new ≡ renumbered tx lowest named self.old }
         ensures spelled { (r : Record) → self.old ≡ spelling r → self.new ≡ spelling (record r { tx = tx; lowest = lowest; named = named }) }
@@ -52,6 +53,7 @@ impl Framed {
     }
 
     /// Leaves the 25 bytes of an abandon record, with its three numbers 0. Takes no memory.
+    #[tactic(auto, unfolding(crate::specs::Spelling::spelling))]
     pub fn make_abandon(&mut self)
         ensures { self.new ≡ spelling (unnumbered Abandon) }
     {
@@ -80,6 +82,7 @@ fn put_number(bytes: &mut [u8], at: usize, number: u64)
 }
 
 /// The bytes of a record that says this, with transaction, lowest and named 0: `Framed::patch` sets them.
+#[tactic(auto, unfolding(crate::specs::Spelling::spelling))]
 pub fn encode_payload(alloc: Global, action: &Action) -> Result<Framed, NoMemory>
     ensures { IfOk result (λ framed. framed ≡ spelling (unnumbered action.now)) }
 {
