@@ -1,17 +1,16 @@
 -- The record that is read stands at the front, and the record that stands at the front is read.
-use Rattle.std.proofs.Common.{◌≡◌, ℕ, zero, suc, ◌+◌, ◌-◌, ◌^◌, ◌<◌, ◌≤◌, Bool, true, false, ◌&&◌, cond, ltb, leb, eqb, List, [], ◌∷◌, ◌++◌, length, get_or, take, drop, Option, Some, None, Result, Ok, Err, refl, sym, ap, subst, ◌∙◌, append_assoc, arith, inl, inr, ◌⊎◌}
-use Rattle.std.specs.Prelude.{IsTrue, IfOk}
+use Rattle.std.proofs.Common.{◌≡◌, ℕ, ◌+◌, ◌^◌, ◌<◌, ◌≤◌, Bool, true, false, ◌&&◌, cond, ltb, leb, eqb, List, [], ◌∷◌, ◌++◌, length, take, drop, Option, Some, None, Result, Ok, Err, refl, sym, ap, subst, ◌∙◌, arith, inl, inr, ◌⊎◌}
+use Rattle.std.specs.Prelude.{IfOk}
 use Rattle.std.specs.List.{find}
 use Rattle.std.specs.Int.{w8, w16, w64, to_be_bytes}
-use Rattle.std.proofs.lemmas.Bool.{ltb-true, leb-true, eqb-true}
-use Rattle.std.proofs.lemmas.List.{append-nil, take_at, drop_at, length-append}
+use Rattle.std.proofs.lemmas.Bool.{leb-true, eqb-true}
+use Rattle.std.proofs.lemmas.List.{take_at, drop_at, length-append}
 use Rattle.frs_types.specs.declared.record.Action.{Action}
 use Rattle.frs_types.specs.declared.record.Action.TheVariants as actions
 use Rattle.frs_types.specs.declared.record.Record.{Record}
 use Rattle.frs_types.specs.Records.{is_id_len, is_key_len, is_value_len, has_words, kind_permits, well_formed, Fits}
 use Rattle.frs_frame.specs.declared.decoding.Head.{Head}
 use Rattle.frs_frame.specs.declared.fault.FrameFault.{FrameFault}
-use Rattle.frs_frame.specs.declared.fault.FrameFault.TheVariants as faults
 use Rattle.frs_frame.specs.declared.kind.Kind.{Kind}
 use Rattle.frs_frame.specs.declared.kind.Kind.TheVariants.{Put, Remove, Delete, Begin, Commit, Compaction, Mark, Abandon}
 use Rattle.frs_frame.specs.Kinds.{kind_of, code, kinds, kind_of_byte, permits_tx, permits_named}
@@ -77,8 +76,8 @@ nothing bytes at le = record { parts = refl; end_is = omega arith; within = le }
 three_words : (bytes : List ℕ) (at : ℕ) {X : Type 0} (make : List ℕ → List ℕ → List ℕ → X) (x : X × ℕ) → IsBytes bytes
     → (id_at bytes at >>= λ i. key_at bytes i.1 >>= λ k. value_at bytes k.1 >>= λ v. Ok (make i.0 k.0 v.0, v.1)) ≡ Ok x
     → (id : List ℕ) × (key : List ℕ) × (value : List ℕ) × (end : ℕ)
-      × ((make id key value, end) ≡ x) × Takes bytes at (word_bytes id_width id ++ word_bytes key_width key ++ word_bytes value_width value) end
-      × (is_id_len (length id) ≡ true) × (is_key_len (length key) ≡ true) × (is_value_len (length value) ≡ true)
+    × ((make id key value, end) ≡ x) × Takes bytes at (word_bytes id_width id ++ word_bytes key_width key ++ word_bytes value_width value) end
+    × (is_id_len (length id) ≡ true) × (is_key_len (length key) ≡ true) × (is_value_len (length value) ≡ true)
 three_words bytes at make x fits e =
     let a = bind_ok (id_at bytes at) (λ i. key_at bytes i.1 >>= λ k. value_at bytes k.1 >>= λ v. Ok (make i.0 k.0 v.0, v.1)) x e in
     let b = bind_ok (key_at bytes a.0.1) (λ k. value_at bytes k.1 >>= λ v. Ok (make a.0.0 k.0 v.0, v.1)) x a.2 in
@@ -362,7 +361,7 @@ one_record r q rest other fits fits' e =
     let action : r.action ≡ q.action = ap (λ (x : Action × ℕ). x.0) both_actions in
     let len : n ≡ m = ap (λ (x : Action × ℕ). x.1) both_actions in
     let records : made r.tx r.lowest r.named r.action ≡ made q.tx q.lowest q.named q.action =
-        ap (λ (x : ℕ). made x r.lowest r.named r.action) tx ∙ ap (λ (x : ℕ). made q.tx x r.named r.action) lowest ∙ ap (λ (x : ℕ). made q.tx q.lowest x r.action) named ∙ ap (made q.tx q.lowest q.named) action in
+    ap (λ (x : ℕ). made x r.lowest r.named r.action) tx ∙ ap (λ (x : ℕ). made q.tx x r.named r.action) lowest ∙ ap (λ (x : ℕ). made q.tx q.lowest x r.action) named ∙ ap (made q.tx q.lowest q.named) action in
     (records, sym (drop_at (spelling r) rest n refl) ∙ ap (λ (k : ℕ). drop k bytes) len ∙ ap (drop m) e ∙ drop_at (spelling q) other m refl)
 
 -- the same of what a call answered

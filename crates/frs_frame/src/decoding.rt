@@ -20,6 +20,7 @@ struct Head {
     named: u64,
 }
 
+// The bytes of a field of that length.
 #[tactic(auto, unfolding(crate::specs::Decoding::field))]
 fn field(bytes: &[u8], at: usize, len: usize) -> Result<(&[u8], usize), FrameFault>
     requires inside { at ≤ length bytes.now }
@@ -37,6 +38,7 @@ fn field(bytes: &[u8], at: usize, len: usize) -> Result<(&[u8], usize), FrameFau
     Ok((&bytes[at..end], end))
 }
 
+// A number of one byte.
 #[tactic(auto, unfolding(crate::specs::Decoding::number_at))]
 fn u8_at(bytes: &[u8], at: usize) -> Result<(u8, usize), FrameFault>
     requires { at ≤ length bytes.now }
@@ -47,6 +49,7 @@ fn u8_at(bytes: &[u8], at: usize) -> Result<(u8, usize), FrameFault>
     Ok((field[0], end))
 }
 
+// A number of two bytes.
 #[tactic(auto, unfolding(crate::specs::Decoding::number_at))]
 fn u16_at(bytes: &[u8], at: usize) -> Result<(u16, usize), FrameFault>
     requires { at ≤ length bytes.now }
@@ -57,6 +60,7 @@ fn u16_at(bytes: &[u8], at: usize) -> Result<(u16, usize), FrameFault>
     Ok((u16::from_be_bytes([field[0], field[1]]), end))
 }
 
+// A number of eight bytes.
 #[tactic(auto, unfolding(crate::specs::Decoding::number_at))]
 fn u64_at(bytes: &[u8], at: usize) -> Result<(u64, usize), FrameFault>
     requires { at ≤ length bytes.now }
@@ -70,6 +74,7 @@ fn u64_at(bytes: &[u8], at: usize) -> Result<(u64, usize), FrameFault>
     Ok((number, end))
 }
 
+// An id. Its length is tested before its bytes are looked for, so only memory can be missing at the end.
 #[tactic(auto, unfolding(crate::specs::Decoding::id_at, crate::specs::Decoding::word_at))]
 fn id_at(alloc: Global, bytes: &[u8], at: usize) -> Result<(MapId, usize), FrameFault>
     requires { at ≤ length bytes.now }
@@ -87,6 +92,7 @@ fn id_at(alloc: Global, bytes: &[u8], at: usize) -> Result<(MapId, usize), Frame
     }
 }
 
+// A key. Its length is tested before its bytes are looked for, so only memory can be missing at the end.
 #[tactic(auto, unfolding(crate::specs::Decoding::key_at, crate::specs::Decoding::word_at))]
 fn key_at(alloc: Global, bytes: &[u8], at: usize) -> Result<(Key, usize), FrameFault>
     requires { at ≤ length bytes.now }
@@ -104,6 +110,7 @@ fn key_at(alloc: Global, bytes: &[u8], at: usize) -> Result<(Key, usize), FrameF
     }
 }
 
+// A value. Each length that two bytes can hold is allowed, so only memory can be missing at the end.
 #[tactic(auto, unfolding(crate::specs::Decoding::value_at, crate::specs::Decoding::word_at))]
 fn value_at(alloc: Global, bytes: &[u8], at: usize) -> Result<(Value, usize), FrameFault>
     requires { at ≤ length bytes.now }
@@ -111,15 +118,21 @@ fn value_at(alloc: Global, bytes: &[u8], at: usize) -> Result<(Value, usize), Fr
     ensures found { IfOk result (λ f. f.1 ≤ length bytes.now) }
 {
     let (len, start) = u16_at(bytes, at)?;
-    let (word, end) = field(bytes, start, len as usize)?;
-    match Value::new(alloc, word) {
+    let (content, end) = field(bytes, start, len as usize)?;
+    match Value::new(alloc, content) {
         Ok(value) => Ok((value, end)),
         Err(_) => Err(FrameFault::Memory),
     }
 }
 
+// What stands behind the head, by the kind.
 #[tactic(auto, unfolding(crate::specs::Decoding::action_at))]
-fn action_at(alloc: Global, kind: Kind, bytes: &[u8], at: usize) -> Result<(Action, usize), FrameFault>
+fn action_at(
+    alloc: Global,
+    kind: Kind,
+    bytes: &[u8],
+    at: usize,
+) -> Result<(Action, usize), FrameFault>
     requires { at ≤ length bytes.now }
     ensures { Gives (λ f. (f.0, f.1)) result (action_at kind bytes.now at) }
 {
@@ -152,6 +165,7 @@ fn action_at(alloc: Global, kind: Kind, bytes: &[u8], at: usize) -> Result<(Acti
     }
 }
 
+// The kind that the first byte stands for.
 #[tactic(auto, unfolding(crate::specs::Decoding::kind_at))]
 fn kind_at(bytes: &[u8]) -> Result<(Kind, usize), FrameFault>
     ensures read { Gives (λ f. (f.0, f.1)) result (kind_at bytes.now) }
@@ -190,6 +204,7 @@ fn head_at(kind: Kind, bytes: &[u8], at: usize) -> Result<(Head, usize), FrameFa
     Ok((Head { tx, lowest, named }, end))
 }
 
+// The record at the front, and its length.
 #[tactic(auto, unfolding(crate::specs::Decoding::decoded))]
 fn record_at_front(alloc: Global, bytes: &[u8]) -> Result<(Record, u64), FrameFault>
     ensures { Gives (λ f. (f.0, f.1)) result (decoded bytes.now) }

@@ -39,7 +39,10 @@ impl fmt::Display for FrameFault {
                 write!(f, "{need} bytes are needed, and there are {have}")
             }
             FrameFault::Field { offset } => {
-                write!(f, "the field at offset {offset} holds what its kind doesn't allow")
+                write!(
+                    f,
+                    "the field at offset {offset} holds what its kind doesn't allow"
+                )
             }
             FrameFault::Memory => write!(f, "out of memory"),
         }

@@ -10,11 +10,18 @@ use frs_types::{Action, Key, MapId, NoMemory, Value};
 use std::alloc::Global;
 use std::marker::Model;
 
-/// The number of bytes before what the kind brings: the kind, the transaction, the lowest and the named LSN.
+// The number of bytes before what the kind brings: the kind, the transaction, the lowest and the named LSN.
 const HEAD: usize = 25;
 
-/// An abandon record, with its three numbers 0.
-const ABANDON: [u8; 25] = [
+// How many bytes tell the length of an id, of a key and of a value.
+const ID_WIDTH: usize = 1;
+
+const KEY_WIDTH: usize = 1;
+
+const VALUE_WIDTH: usize = 2;
+
+// An abandon record, with its three numbers 0.
+const ABANDON: [u8; HEAD] = [
     8, 0, 0, 0, 0, 0, 0, 0, 0, 0, 0, 0, 0, 0, 0, 0, 0, 0, 0, 0, 0, 0, 0, 0, 0,
 ];
 
@@ -49,7 +56,7 @@ impl Framed {
         ensures set { self.new ≡ renumbered tx lowest named self.old }
         ensures spelled { (r : Record) → self.old ≡ spelling r → self.new ≡ spelling (record r { tx = tx; lowest = lowest; named = named }) }
     {
-        put_numbers(&mut self.bytes, tx, lowest, named);
+        write_numbers(&mut self.bytes, tx, lowest, named);
     }
 
     /// Leaves the 25 bytes of an abandon record, with its three numbers 0. Takes no memory.
@@ -64,17 +71,17 @@ impl Framed {
 }
 
 // Writes the three numbers of the head.
-fn put_numbers(bytes: &mut [u8], tx: u64, lowest: u64, named: u64)
+fn write_numbers(bytes: &mut [u8], tx: u64, lowest: u64, named: u64)
     requires { 25 ≤ length bytes.old }
     ensures { bytes.new ≡ renumbered tx lowest named bytes.old }
 {
-    put_number(bytes, 1, tx);
-    put_number(bytes, 9, lowest);
-    put_number(bytes, 17, named);
+    write_number(bytes, 1, tx);
+    write_number(bytes, 9, lowest);
+    write_number(bytes, 17, named);
 }
 
 // Writes the number into the eight bytes from an offset on.
-fn put_number(bytes: &mut [u8], at: usize, number: u64)
+fn write_number(bytes: &mut [u8], at: usize, number: u64)
     requires { at + 8 ≤ length bytes.old }
     ensures { bytes.new ≡ take at bytes.old ++ to_be_bytes w64 number ++ drop (at + 8) bytes.old }
 {
@@ -89,7 +96,7 @@ pub fn encode_payload(alloc: Global, action: &Action) -> Result<Framed, NoMemory
     let mut bytes = Vec::with_capacity(alloc, HEAD + payload_len(action))?;
     bytes.push(Kind::of(action).code())?;
     bytes.extend_from_slice(&[0; 24])?;
-    put_payload(&mut bytes, action)?;
+    add_payload(&mut bytes, action)?;
     Ok(Framed { bytes })
 }
 
@@ -100,34 +107,40 @@ fn payload_len(action: &Action) -> usize
 {
     match action {
         Action::Put { id, key, value } | Action::Compaction { id, key, value } => {
-            4 + id.bytes().len() + key.bytes().len() + value.bytes().len()
+            ID_WIDTH
+                + id.bytes().len()
+                + KEY_WIDTH
+                + key.bytes().len()
+                + VALUE_WIDTH
+                + value.bytes().len()
         }
-        Action::Remove { id, key } => 2 + id.bytes().len() + key.bytes().len(),
-        Action::Delete { id } => 1 + id.bytes().len(),
+        Action::Remove { id, key } => ID_WIDTH + id.bytes().len() + KEY_WIDTH + key.bytes().len(),
+        Action::Delete { id } => ID_WIDTH + id.bytes().len(),
         Action::Begin | Action::Commit | Action::Mark | Action::Abandon => 0,
     }
 }
 
 // Adds what stands behind the head.
-fn put_payload(out: &mut Vec<u8>, action: &Action) -> Result<(), NoMemory>
+fn add_payload(out: &mut Vec<u8>, action: &Action) -> Result<(), NoMemory>
     ensures { OnOk result (out.new.items ≡ out.old.items ++ payload action.now) }
 {
     match action {
         Action::Put { id, key, value } | Action::Compaction { id, key, value } => {
-            put_id(out, id)?;
-            put_key(out, key)?;
-            put_value(out, value)
+            add_id(out, id)?;
+            add_key(out, key)?;
+            add_value(out, value)
         }
         Action::Remove { id, key } => {
-            put_id(out, id)?;
-            put_key(out, key)
+            add_id(out, id)?;
+            add_key(out, key)
         }
-        Action::Delete { id } => put_id(out, id),
+        Action::Delete { id } => add_id(out, id),
         Action::Begin | Action::Commit | Action::Mark | Action::Abandon => Ok(()),
     }
 }
 
-fn put_id(out: &mut Vec<u8>, id: &MapId) -> Result<(), NoMemory>
+// Adds an id: its length and its bytes.
+fn add_id(out: &mut Vec<u8>, id: &MapId) -> Result<(), NoMemory>
     ensures { OnOk result (out.new.items ≡ out.old.items ++ word_bytes id_width id.now) }
 {
     let word = id.bytes();
@@ -136,7 +149,8 @@ fn put_id(out: &mut Vec<u8>, id: &MapId) -> Result<(), NoMemory>
     Ok(())
 }
 
-fn put_key(out: &mut Vec<u8>, key: &Key) -> Result<(), NoMemory>
+// Adds a key: its length and its bytes.
+fn add_key(out: &mut Vec<u8>, key: &Key) -> Result<(), NoMemory>
     ensures { OnOk result (out.new.items ≡ out.old.items ++ word_bytes key_width key.now) }
 {
     let word = key.bytes();
@@ -145,7 +159,8 @@ fn put_key(out: &mut Vec<u8>, key: &Key) -> Result<(), NoMemory>
     Ok(())
 }
 
-fn put_value(out: &mut Vec<u8>, value: &Value) -> Result<(), NoMemory>
+// Adds a value: its length and its bytes.
+fn add_value(out: &mut Vec<u8>, value: &Value) -> Result<(), NoMemory>
     ensures { OnOk result (out.new.items ≡ out.old.items ++ word_bytes value_width value.now) }
 {
     let word = value.bytes();
