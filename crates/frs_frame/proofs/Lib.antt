@@ -1,1 +1,3 @@
--- No lemma yet.
+pub mod Renumbering
+pub mod Fields
+pub mod Reading

@@ -1,1 +1,4 @@
+pub mod Decoding
+pub mod Front
+pub mod Kinds
 pub mod Spelling

@@ -1,0 +1,8 @@
+use Rattle.frs_frame.proofs.Reading.{spelling_least, spelling_most}
+use Rattle.frs_frame.proofs.law.spelling_len.Goals as goal
+
+pub returns-clause-least : goal.returns-clause-least
+returns-clause-least c = spelling_least
+
+pub returns-clause-most : goal.returns-clause-most
+returns-clause-most c = spelling_most
