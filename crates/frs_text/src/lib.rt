@@ -1,2 +1,8 @@
 //! Texts: what is printed of a history, and what is read of a script and of a command line.
 #![tactic(auto)]
+
+mod name;
+mod plan;
+
+pub use name::Name;
+pub use plan::{FileNames, Job, PlainPlan, Plan, RunPlan};
