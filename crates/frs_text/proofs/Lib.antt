@@ -1,1 +1,2 @@
--- No lemma yet.
+mod FoundLines
+mod JoinedWords

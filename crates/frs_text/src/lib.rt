@@ -1,8 +1,11 @@
 //! Texts: what is printed of a history, and what is read of a script and of a command line.
 #![tactic(auto)]
 
+mod find;
+mod lines;
 mod name;
 mod plan;
+mod text;
 
 pub use name::Name;
 pub use plan::{FileNames, Job, PlainPlan, Plan, RunPlan};
