@@ -1,0 +1,179 @@
+// A disk in memory as a disk.
+ghost use Rattle.std.specs.Prelude.{◌≡◌, ◌⊎◌, ◌≤◌, ℕ, [], true, Some, None, length, take, drop, IsTrue, IsSome, IfOk, OnOk, All};
+ghost use Rattle.std.proofs.Common.{sym, ◌∙◌, subst, ap};
+ghost use Rattle.std.specs.FinMap.{get, keys, same_entries_map};
+ghost use Rattle.std.specs.List.Sorted.{IsStrictlyIncreasing};
+ghost use Rattle.frs_disk.specs.Disk.{Image, bytes_at, overwritten, IsNumber, Changes, OnFile, Torn, Created, Removed, Follows, Keeps, IsSynced, Elapses, HasCause};
+ghost use Rattle.frs_disk.specs.Calls.{replayed, MayLeave, LeftSince, HasRemoved};
+ghost use Rattle.frs_disk.specs.Choices.{held_numbered};
+ghost use Rattle.frs_disk.specs.CallLaws.{now_counts, now_only, earlier_since, read_leaves, absent_stays};
+ghost use Rattle.frs_disk.specs.Plans.{start_of, files_of, record_of, faults_of, Plays};
+
+use super::MemDisk;
+use crate::calls::{Bytes, Call};
+use crate::disk::{Disk, Fault};
+use crate::table::{file_of, numbers_of, overwrite};
+use std::alloc::Global;
+
+impl Disk for MemDisk {
+    ghost tells = { λ _. true };
+
+    ghost reads = { files_of };
+
+    ghost may_leave = { λ m. MayLeave (start_of m) (record_of m) };
+
+    ghost moment = { λ m. length (record_of m) };
+
+    ghost left_since = { λ m. LeftSince (start_of m) (record_of m) };
+
+    ghost removing = { λ m. HasRemoved (record_of m) };
+
+    ghost faults = { faults_of };
+
+    ghost counts_now = { λ m t c le leaves. now_counts (start_of m) (record_of m) t c le leaves };
+
+    ghost only_now = { λ m c left. now_only (start_of m) (record_of m) c left };
+
+    ghost since_earlier = { λ m s t c le left. earlier_since (start_of m) (record_of m) s t c le left };
+
+    ghost as_read = { λ m told. subst (λ (c : Image). MayLeave (start_of m) (record_of m) c) (sym (same_entries_map (files_of m) (replayed (start_of m) (record_of m)) m.tied)) (read_leaves (start_of m) (record_of m)) };
+
+    ghost stays_absent = { λ m n c told none kept leaves. absent_stays (start_of m) c (record_of m) n kept (ap (λ (i : Image). get i n) (sym (same_entries_map (files_of m) (replayed (start_of m) (record_of m)) m.tied)) ∙ none) leaves };
+
+    ghost numbered = { λ m n told some. held_numbered (start_of m) (files_of m) (record_of m) m.tied m.in_range n some };
+
+    fn count(&self) -> u64 {
+        self.faults
+    }
+
+    fn segments(&mut self, alloc: Global) -> Result<Vec<u64>, Fault>
+        ensures numbers { IfOk result (λ numbers. IsTrue (⟦<MemDisk as Disk>⟧.tells self.old) → numbers.items ≡ keys (⟦<MemDisk as Disk>⟧.reads self.old)) }
+        ensures rising { IfOk result (λ numbers. IsStrictlyIncreasing numbers.items) }
+        ensures in_range { IfOk result (λ numbers. All IsNumber numbers.items) }
+        ensures told { ⟦<MemDisk as Disk>⟧.tells self.new ≡ ⟦<MemDisk as Disk>⟧.tells self.old }
+        ensures seen { ⟦<MemDisk as Disk>⟧.reads self.new ≡ ⟦<MemDisk as Disk>⟧.reads self.old }
+        ensures pending { (n : ℕ) → ⟦<MemDisk as Disk>⟧.removing self.new n → ⟦<MemDisk as Disk>⟧.removing self.old n }
+        ensures crash { Keeps (⟦<MemDisk as Disk>⟧.may_leave self.old) (⟦<MemDisk as Disk>⟧.may_leave self.new) }
+        ensures time { Elapses ⟦<MemDisk as Disk>⟧.moment ⟦<MemDisk as Disk>⟧.left_since ⟦<MemDisk as Disk>⟧.may_leave self.old self.new }
+        ensures cause { HasCause (⟦<MemDisk as Disk>⟧.faults self.old) (⟦<MemDisk as Disk>⟧.faults self.new) result }
+        ensures plays { Plays Call.Segments self.old self.new result }
+    {
+        let numbers = numbers_of(alloc, &self.files)?;
+        self.ask(Call::Segments)?;
+        Ok(numbers)
+    }
+
+    fn create(&mut self, number: u64) -> Result<(), Fault>
+        requires in_range { IsNumber number }
+        requires absent { IsTrue (⟦<MemDisk as Disk>⟧.tells self.old) → get (⟦<MemDisk as Disk>⟧.reads self.old) number ≡ None }
+        requires not_removed { IsTrue (⟦<MemDisk as Disk>⟧.tells self.old) → ⟦<MemDisk as Disk>⟧.removing self.old number → ⊥ }
+        ensures created { OnOk result (IsTrue (⟦<MemDisk as Disk>⟧.tells self.old) → get (⟦<MemDisk as Disk>⟧.reads self.new) number ≡ Some []) }
+        ensures told { ⟦<MemDisk as Disk>⟧.tells self.new ≡ ⟦<MemDisk as Disk>⟧.tells self.old }
+        ensures seen { IsTrue (⟦<MemDisk as Disk>⟧.tells self.old) → Changes number Created (⟦<MemDisk as Disk>⟧.reads self.old) (⟦<MemDisk as Disk>⟧.reads self.new) }
+        ensures pending { (n : ℕ) → ⟦<MemDisk as Disk>⟧.removing self.new n → ⟦<MemDisk as Disk>⟧.removing self.old n }
+        ensures crash { Follows (Changes number Created) (⟦<MemDisk as Disk>⟧.may_leave self.old) (⟦<MemDisk as Disk>⟧.may_leave self.new) }
+        ensures time { Elapses ⟦<MemDisk as Disk>⟧.moment ⟦<MemDisk as Disk>⟧.left_since ⟦<MemDisk as Disk>⟧.may_leave self.old self.new }
+        ensures cause { HasCause (⟦<MemDisk as Disk>⟧.faults self.old) (⟦<MemDisk as Disk>⟧.faults self.new) result }
+        ensures plays { Plays (Call.Create number) self.old self.new result }
+    {
+        let empty = Vec::new(self.alloc);
+        self.change(Call::Create { number }, number, empty)
+    }
+
+    fn length(&mut self, number: u64) -> Result<u64, Fault>
+        requires there { IsTrue (⟦<MemDisk as Disk>⟧.tells self.old) → IsSome (get (⟦<MemDisk as Disk>⟧.reads self.old) number) }
+        ensures length { IfOk result (λ n. IsTrue (⟦<MemDisk as Disk>⟧.tells self.old) → n ≡ length (bytes_at (⟦<MemDisk as Disk>⟧.reads self.old) number)) }
+        ensures told { ⟦<MemDisk as Disk>⟧.tells self.new ≡ ⟦<MemDisk as Disk>⟧.tells self.old }
+        ensures seen { ⟦<MemDisk as Disk>⟧.reads self.new ≡ ⟦<MemDisk as Disk>⟧.reads self.old }
+        ensures pending { (n : ℕ) → ⟦<MemDisk as Disk>⟧.removing self.new n → ⟦<MemDisk as Disk>⟧.removing self.old n }
+        ensures crash { Keeps (⟦<MemDisk as Disk>⟧.may_leave self.old) (⟦<MemDisk as Disk>⟧.may_leave self.new) }
+        ensures time { Elapses ⟦<MemDisk as Disk>⟧.moment ⟦<MemDisk as Disk>⟧.left_since ⟦<MemDisk as Disk>⟧.may_leave self.old self.new }
+        ensures cause { HasCause (⟦<MemDisk as Disk>⟧.faults self.old) (⟦<MemDisk as Disk>⟧.faults self.new) result }
+        ensures plays { Plays (Call.Length number) self.old self.new result }
+    {
+        self.ask(Call::Length { number })?;
+        Ok(file_of(&self.files, number).len() as u64)
+    }
+
+    fn read(&mut self, alloc: Global, number: u64, at: u64, room: u64) -> Result<Vec<u8>, Fault>
+        requires there { IsTrue (⟦<MemDisk as Disk>⟧.tells self.old) → IsSome (get (⟦<MemDisk as Disk>⟧.reads self.old) number) }
+        ensures bytes { IfOk result (λ bytes. IsTrue (⟦<MemDisk as Disk>⟧.tells self.old) → bytes.items ≡ take room (drop at (bytes_at (⟦<MemDisk as Disk>⟧.reads self.old) number))) }
+        ensures no_more { IfOk result (λ bytes. length bytes.items ≤ room) }
+        ensures told { ⟦<MemDisk as Disk>⟧.tells self.new ≡ ⟦<MemDisk as Disk>⟧.tells self.old }
+        ensures seen { ⟦<MemDisk as Disk>⟧.reads self.new ≡ ⟦<MemDisk as Disk>⟧.reads self.old }
+        ensures pending { (n : ℕ) → ⟦<MemDisk as Disk>⟧.removing self.new n → ⟦<MemDisk as Disk>⟧.removing self.old n }
+        ensures crash { Keeps (⟦<MemDisk as Disk>⟧.may_leave self.old) (⟦<MemDisk as Disk>⟧.may_leave self.new) }
+        ensures time { Elapses ⟦<MemDisk as Disk>⟧.moment ⟦<MemDisk as Disk>⟧.left_since ⟦<MemDisk as Disk>⟧.may_leave self.old self.new }
+        ensures cause { HasCause (⟦<MemDisk as Disk>⟧.faults self.old) (⟦<MemDisk as Disk>⟧.faults self.new) result }
+        ensures plays { Plays (Call.Read number at room) self.old self.new result }
+    {
+        let bytes = part(file_of(&self.files, number), at, room).to_vec(alloc)?;
+        self.ask(Call::Read { number, at, room })?;
+        Ok(bytes)
+    }
+
+    fn write(&mut self, number: u64, at: u64, bytes: &[u8]) -> Result<(), Fault>
+        requires there { IsTrue (⟦<MemDisk as Disk>⟧.tells self.old) → IsSome (get (⟦<MemDisk as Disk>⟧.reads self.old) number) }
+        requires within { IsTrue (⟦<MemDisk as Disk>⟧.tells self.old) → at ≤ length (bytes_at (⟦<MemDisk as Disk>⟧.reads self.old) number) }
+        ensures written { OnOk result (IsTrue (⟦<MemDisk as Disk>⟧.tells self.old)
+            → get (⟦<MemDisk as Disk>⟧.reads self.new) number ≡ Some (overwritten at bytes.now (bytes_at (⟦<MemDisk as Disk>⟧.reads self.old) number))) }
+        ensures told { ⟦<MemDisk as Disk>⟧.tells self.new ≡ ⟦<MemDisk as Disk>⟧.tells self.old }
+        ensures seen { IsTrue (⟦<MemDisk as Disk>⟧.tells self.old) → Changes number (OnFile (Torn at (length bytes.now))) (⟦<MemDisk as Disk>⟧.reads self.old) (⟦<MemDisk as Disk>⟧.reads self.new) }
+        ensures pending { (n : ℕ) → ⟦<MemDisk as Disk>⟧.removing self.new n → ⟦<MemDisk as Disk>⟧.removing self.old n }
+        ensures crash { Follows (Changes number (OnFile (Torn at (length bytes.now)))) (⟦<MemDisk as Disk>⟧.may_leave self.old) (⟦<MemDisk as Disk>⟧.may_leave self.new) }
+        ensures time { Elapses ⟦<MemDisk as Disk>⟧.moment ⟦<MemDisk as Disk>⟧.left_since ⟦<MemDisk as Disk>⟧.may_leave self.old self.new }
+        ensures cause { HasCause (⟦<MemDisk as Disk>⟧.faults self.old) (⟦<MemDisk as Disk>⟧.faults self.new) result }
+        ensures plays { Plays (Call.Write number at bytes.now) self.old self.new result }
+    {
+        let next = overwrite(self.alloc, file_of(&self.files, number), at, bytes)?;
+        let copy = Bytes::of(bytes.to_vec(self.alloc)?);
+        let call = Call::Write {
+            number,
+            at,
+            bytes: copy,
+        };
+        self.change(call, number, next)
+    }
+
+    fn sync(&mut self, number: u64) -> Result<(), Fault>
+        requires there { IsTrue (⟦<MemDisk as Disk>⟧.tells self.old) → IsSome (get (⟦<MemDisk as Disk>⟧.reads self.old) number) }
+        ensures durable { OnOk result (IsSynced ⟦<MemDisk as Disk>⟧.reads ⟦<MemDisk as Disk>⟧.may_leave self.new number) }
+        ensures told { ⟦<MemDisk as Disk>⟧.tells self.new ≡ ⟦<MemDisk as Disk>⟧.tells self.old }
+        ensures seen { ⟦<MemDisk as Disk>⟧.reads self.new ≡ ⟦<MemDisk as Disk>⟧.reads self.old }
+        ensures pending { (n : ℕ) → ⟦<MemDisk as Disk>⟧.removing self.new n → ⟦<MemDisk as Disk>⟧.removing self.old n }
+        ensures crash { Keeps (⟦<MemDisk as Disk>⟧.may_leave self.old) (⟦<MemDisk as Disk>⟧.may_leave self.new) }
+        ensures time { Elapses ⟦<MemDisk as Disk>⟧.moment ⟦<MemDisk as Disk>⟧.left_since ⟦<MemDisk as Disk>⟧.may_leave self.old self.new }
+        ensures cause { HasCause (⟦<MemDisk as Disk>⟧.faults self.old) (⟦<MemDisk as Disk>⟧.faults self.new) result }
+        ensures plays { Plays (Call.Sync number) self.old self.new result }
+    {
+        self.ask(Call::Sync { number })
+    }
+
+    fn remove(&mut self, number: u64) -> Result<(), Fault>
+        requires there { IsTrue (⟦<MemDisk as Disk>⟧.tells self.old) → IsSome (get (⟦<MemDisk as Disk>⟧.reads self.old) number) }
+        ensures removed { OnOk result (IsTrue (⟦<MemDisk as Disk>⟧.tells self.old) → get (⟦<MemDisk as Disk>⟧.reads self.new) number ≡ None) }
+        ensures told { ⟦<MemDisk as Disk>⟧.tells self.new ≡ ⟦<MemDisk as Disk>⟧.tells self.old }
+        ensures seen { IsTrue (⟦<MemDisk as Disk>⟧.tells self.old) → Changes number Removed (⟦<MemDisk as Disk>⟧.reads self.old) (⟦<MemDisk as Disk>⟧.reads self.new) }
+        ensures pending { (n : ℕ) → ⟦<MemDisk as Disk>⟧.removing self.new n → ⟦<MemDisk as Disk>⟧.removing self.old n ⊎ (n ≡ number) }
+        ensures crash { Follows (Changes number Removed) (⟦<MemDisk as Disk>⟧.may_leave self.old) (⟦<MemDisk as Disk>⟧.may_leave self.new) }
+        ensures time { Elapses ⟦<MemDisk as Disk>⟧.moment ⟦<MemDisk as Disk>⟧.left_since ⟦<MemDisk as Disk>⟧.may_leave self.old self.new }
+        ensures cause { HasCause (⟦<MemDisk as Disk>⟧.faults self.old) (⟦<MemDisk as Disk>⟧.faults self.new) result }
+        ensures plays { Plays (Call.Remove number) self.old self.new result }
+    {
+        self.take_out(number)
+    }
+}
+
+// The bytes from an offset on, as many as there are and no more than there is room for.
+fn part(bytes: &[u8], at: u64, room: u64) -> &[u8]
+    ensures { result.now ≡ take room (drop at bytes.now) }
+{
+    if at >= bytes.len() as u64 {
+        return &[];
+    }
+    let rest = &bytes[at as usize..];
+    if room >= rest.len() as u64 {
+        return rest;
+    }
+    &rest[..room as usize]
+}

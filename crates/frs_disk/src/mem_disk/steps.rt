@@ -1,0 +1,98 @@
+// What each call of a disk in memory does: it is noted, and then done unless the plan lets it fail.
+ghost use Rattle.std.specs.Prelude.{◌≡◌, ◌⊎◌, ◌+◌, ℕ, true, length, OnOk, OnErr};
+ghost use Rattle.std.specs.FinMap.{insert, remove};
+ghost use Rattle.frs_disk.specs.Disk.{Image, IsNumber, HasCause, Elapses, Keeps};
+ghost use Rattle.frs_disk.specs.Files.{image_of};
+ghost use Rattle.frs_disk.specs.Calls.{after_call, TakesCall, RemovesMade, CreatesMade, MayLeave, LeftSince, HasRemoved, Notes, MayTake};
+ghost use Rattle.frs_disk.specs.Plans.{start_of, files_of, record_of, plan_of, faults_of, fails_at, FailsExactly, Plays};
+
+use super::MemDisk;
+use crate::calls::{Call, Made};
+use crate::disk::Fault;
+use crate::table::{put_file, remove_file};
+
+impl MemDisk {
+    // A call that changes no file.
+    pub(super) fn ask(&mut self, call: Call) -> Result<(), Fault>
+        requires same { (i : Image) → after_call call i ≡ i }
+        requires takes { (i old new : Image) → TakesCall call i old new → new ≡ old }
+        requires removes { (n : ℕ) → RemovesMade true call n → ⊥ }
+        requires creates { (n : ℕ) → CreatesMade true call n → ⊥ }
+        ensures pending { (n : ℕ) → HasRemoved (record_of self.new) n → HasRemoved (record_of self.old) n }
+        ensures crash { Keeps (MayLeave (start_of self.old) (record_of self.old)) (MayLeave (start_of self.new) (record_of self.new)) }
+        ensures time { Elapses (λ m. length (record_of m)) (λ m. LeftSince (start_of m) (record_of m)) (λ m. MayLeave (start_of m) (record_of m)) self.old self.new }
+        ensures files { self.new.files ≡ self.old.files }
+        ensures cause { HasCause self.old.faults self.new.faults result }
+        ensures plays { Plays call self.old self.new result }
+    {
+        let fails = self.fails();
+        note(&mut self.calls, &mut self.faults, fails, call)
+    }
+
+    // A call that sets the bytes of a file.
+    pub(super) fn change(&mut self, call: Call, number: u64, next: Vec<u8>) -> Result<(), Fault>
+        requires creates { (n : ℕ) → CreatesMade true call n → IsNumber n }
+        requires sets { after_call call (files_of self.old) ≡ insert (files_of self.old) number next.items }
+        requires removes { (n : ℕ) → RemovesMade true call n → ⊥ }
+        ensures changed { OnOk result (files_of self.new ≡ insert (files_of self.old) number next.items) }
+        ensures files { OnErr result (self.new.files.items ≡ self.old.files.items) }
+        ensures pending { (n : ℕ) → HasRemoved (record_of self.new) n → HasRemoved (record_of self.old) n }
+        ensures leaves { MayTake call (files_of self.old) (MayLeave (start_of self.old) (record_of self.old)) (MayLeave (start_of self.new) (record_of self.new)) }
+        ensures time { Elapses (λ m. length (record_of m)) (λ m. LeftSince (start_of m) (record_of m)) (λ m. MayLeave (start_of m) (record_of m)) self.old self.new }
+        ensures cause { HasCause self.old.faults self.new.faults result }
+        ensures plays { Plays call self.old self.new result }
+    {
+        let fails = self.fails();
+        note(&mut self.calls, &mut self.faults, fails, call)?;
+        if put_file(&mut self.files, number, next).is_err() {
+            self.calls.pop();
+            return Err(Fault::Memory);
+        }
+        Ok(())
+    }
+
+    // A call that takes a file out.
+    pub(super) fn take_out(&mut self, number: u64) -> Result<(), Fault>
+        ensures removed { OnOk result (files_of self.new ≡ remove (files_of self.old) number) }
+        ensures files { OnErr result (self.new.files.items ≡ self.old.files.items) }
+        ensures pending { (n : ℕ) → HasRemoved (record_of self.new) n → HasRemoved (record_of self.old) n ⊎ (n ≡ number) }
+        ensures leaves { MayTake (Call.Remove number) (files_of self.old) (MayLeave (start_of self.old) (record_of self.old))
+            (MayLeave (start_of self.new) (record_of self.new)) }
+        ensures time { Elapses (λ m. length (record_of m)) (λ m. LeftSince (start_of m) (record_of m)) (λ m. MayLeave (start_of m) (record_of m)) self.old self.new }
+        ensures cause { HasCause self.old.faults self.new.faults result }
+        ensures plays { Plays (Call.Remove number) self.old self.new result }
+    {
+        let fails = self.fails();
+        note(
+            &mut self.calls,
+            &mut self.faults,
+            fails,
+            Call::Remove { number },
+        )?;
+        remove_file(&mut self.files, number);
+        Ok(())
+    }
+
+    // Whether the plan lets the next call fail.
+    fn fails(&self) -> bool
+        ensures { result ≡ fails_at (plan_of self.now) (length (record_of self.now) + 1) }
+    {
+        let next = self.calls.len() as u64 + 1;
+        self.plan.failing.contains(&next) || self.plan.stop_after.is_some_and(|last| last < next)
+    }
+}
+
+// Adds a call to the record.
+fn note(calls: &mut Vec<Made>, faults: &mut u64, fails: bool, call: Call) -> Result<(), Fault>
+    ensures noted { Notes call calls.old.items calls.new.items result }
+    ensures planned { FailsExactly fails result }
+    ensures cause { HasCause faults.old faults.new result }
+{
+    if fails {
+        calls.push(Made { call, done: false })?;
+        *faults = faults.saturating_add(1);
+        return Err(Fault::Failed);
+    }
+    calls.push(Made { call, done: true })?;
+    Ok(())
+}
