@@ -1,0 +1,2 @@
+//! The top calls of the store: they run scripts against a disk, and carry its promise.
+#![tactic(auto)]

@@ -1,0 +1,2 @@
+//! Records as bytes.
+#![tactic(auto)]
