@@ -1,2 +1,3 @@
 mod FoundLines
+mod Gathered
 mod JoinedWords
