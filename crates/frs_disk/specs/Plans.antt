@@ -1,11 +1,10 @@
 -- What a disk in memory shows of itself, and what each of its calls does by its plan.
-use Rattle.std.specs.Prelude.{◌≡◌, ◌↔◌, ℕ, ◌+◌, Bool, true, false, ◌||◌, nat_lt, ◌==◌, List, length, Option, Some, None, OnErr, Result, Ok, Err, ⊤}
-use Rattle.std.specs.List.{list_any}
+use Rattle.std.specs.Prelude.{◌≡◌, ◌↔◌, ℕ, ◌+◌, Bool, false, ◌||◌, nat_lt, List, length, Option, Some, None, OnErr, Result}
 use Rattle.frs_disk.specs.Disk.{Image}
 use Rattle.frs_disk.specs.Files.{image_of}
-use Rattle.frs_disk.specs.Calls.{MayLeave, LeftSince, HasRemoved, Notes}
+use Rattle.frs_disk.specs.Faults.{names, FailsExactly, faults_after}
+use Rattle.frs_disk.specs.Calls.{MayLeave, HasRemoved, Notes}
 use Rattle.frs_disk.specs.declared.disk.Fault.{Fault}
-use Rattle.frs_disk.specs.declared.disk.Fault.TheVariants.{Failed, Memory}
 use Rattle.frs_disk.specs.declared.calls.Call.{Call}
 use Rattle.frs_disk.specs.declared.calls.Made.{Made}
 use Rattle.frs_disk.specs.declared.mem_disk.FaultPlan.{FaultPlan}
@@ -29,10 +28,6 @@ plan_of disk = disk.plan
 abbrev pub faults_of : MemDisk → ℕ
 faults_of disk = disk.faults
 
--- the number is among these
-abbrev pub names : List ℕ → ℕ → Bool
-names numbers n = list_any (λ k. k == n) numbers
-
 -- the stop comes before the call with this number
 abbrev pub is_stopped : Option ℕ → ℕ → Bool
 is_stopped None n = false
@@ -41,12 +36,6 @@ is_stopped (Some last) n = nat_lt last n
 -- the plan lets the call with this number fail
 abbrev pub fails_at : FaultPlan → ℕ → Bool
 fails_at plan n = names plan.failing.items n || is_stopped plan.stop_after n
-
--- a call fails exactly where this test says so, but for want of memory
-abbrev pub FailsExactly : {V : Type 0} → Bool → Result V Fault → Type 0
-FailsExactly test (Ok value) = test ≡ false
-FailsExactly test (Err Failed) = test ≡ true
-FailsExactly test (Err Memory) = ⊤
 
 -- no file is another, a crash may leave the same as before, and the same removals are pending
 pub record IsUntouched (old new : MemDisk) : Type 0 where
@@ -61,4 +50,5 @@ pub record Plays {V : Type 0} (call : Call) (old new : MemDisk) (result : Result
   pub start : start_of new ≡ start_of old
   pub noted : Notes call (record_of old) (record_of new) result
   pub planned : FailsExactly (fails_at (plan_of old) (length (record_of old) + 1)) result
+  pub counted : faults_of new ≡ faults_after result (faults_of old)
   pub refused : OnErr result (IsUntouched old new)

@@ -4,7 +4,8 @@ ghost use Rattle.std.specs.FinMap.{insert, remove};
 ghost use Rattle.frs_disk.specs.Disk.{Image, IsNumber, HasCause, Elapses, Keeps};
 ghost use Rattle.frs_disk.specs.Files.{image_of};
 ghost use Rattle.frs_disk.specs.Calls.{after_call, TakesCall, RemovesMade, CreatesMade, MayLeave, LeftSince, HasRemoved, Notes, MayTake};
-ghost use Rattle.frs_disk.specs.Plans.{start_of, files_of, record_of, plan_of, faults_of, fails_at, FailsExactly, Plays};
+ghost use Rattle.frs_disk.specs.Faults.{FailsExactly, faults_after};
+ghost use Rattle.frs_disk.specs.Plans.{start_of, files_of, record_of, plan_of, faults_of, fails_at, Plays};
 
 use super::MemDisk;
 use crate::calls::{Call, Made};
@@ -86,6 +87,7 @@ impl MemDisk {
 fn note(calls: &mut Vec<Made>, faults: &mut u64, fails: bool, call: Call) -> Result<(), Fault>
     ensures noted { Notes call calls.old.items calls.new.items result }
     ensures planned { FailsExactly fails result }
+    ensures counted { faults.new ≡ faults_after result faults.old }
     ensures cause { HasCause faults.old faults.new result }
 {
     if fails {
