@@ -1,1 +1,3 @@
--- No lemma yet.
+mod FoundLines
+mod Gathered
+mod JoinedWords

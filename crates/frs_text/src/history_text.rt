@@ -1,0 +1,102 @@
+//! The transcript of a history, written to a sink in pieces of some size.
+ghost use Rattle.std.specs.Prelude.{◌≡◌, ℕ, List, [], ◌++◌, OnOk, IsTrue, flat_map};
+ghost use Rattle.std.specs.String.{string_bytes};
+ghost use Rattle.frs_disk.specs.Disk.{HasCause};
+ghost use Rattle.frs_text.specs.Sinks.{Gathers, AddsPrefix};
+ghost use Rattle.frs_text.specs.Text.{event_line, ack_line};
+
+use crate::lines::{push_ack, push_event};
+use crate::sink::Sink;
+use frs_disk::Fault;
+use frs_history::{Ack, Event, Script};
+use std::alloc::Global;
+
+/// So many bytes are gathered before they are written.
+const PIECE: usize = 65_536;
+
+// Hands what is gathered to the sink.
+fn write_gathered<S: Sink>(text: &mut String, sink: &mut S) -> Result<(), Fault>
+    ensures all { OnOk result (IsTrue (S.tells sink.old) → Gathers (S.bytes sink.old) (string_bytes text.old) (S.bytes sink.new) (string_bytes text.new) []) }
+    ensures part { IsTrue (S.tells sink.old) → AddsPrefix (S.bytes sink.old) (S.bytes sink.new) (string_bytes text.old) }
+    ensures told { S.tells sink.new ≡ S.tells sink.old }
+    ensures cause { HasCause (S.faults sink.old) (S.faults sink.new) result }
+    ensures empty { OnOk result (string_bytes text.new ≡ []) }
+{
+    if text.is_empty() {
+        return Ok(());
+    }
+    sink.write(text.as_bytes())?;
+    text.clear();
+    Ok(())
+}
+
+// Hands what is gathered to the sink, where it is enough for a piece.
+fn write_full<S: Sink>(text: &mut String, sink: &mut S) -> Result<(), Fault>
+    ensures all { OnOk result (IsTrue (S.tells sink.old) → Gathers (S.bytes sink.old) (string_bytes text.old) (S.bytes sink.new) (string_bytes text.new) []) }
+    ensures part { IsTrue (S.tells sink.old) → AddsPrefix (S.bytes sink.old) (S.bytes sink.new) (string_bytes text.old) }
+    ensures told { S.tells sink.new ≡ S.tells sink.old }
+    ensures cause { HasCause (S.faults sink.old) (S.faults sink.new) result }
+{
+    if text.len() < PIECE {
+        return Ok(());
+    }
+    write_gathered(text, sink)
+}
+
+fn write_event<S: Sink>(text: &mut String, scripts: &[Script], event: &Event, sink: &mut S) -> Result<(), Fault>
+    ensures all { OnOk result (IsTrue (S.tells sink.old) → Gathers (S.bytes sink.old) (string_bytes text.old) (S.bytes sink.new) (string_bytes text.new) (event_line scripts.now event.now)) }
+    ensures part { IsTrue (S.tells sink.old) → AddsPrefix (S.bytes sink.old) (S.bytes sink.new) (string_bytes text.old ++ event_line scripts.now event.now) }
+    ensures told { S.tells sink.new ≡ S.tells sink.old }
+    ensures cause { HasCause (S.faults sink.old) (S.faults sink.new) result }
+{
+    push_event(text, scripts, event)?;
+    write_full(text, sink)
+}
+
+fn write_ack<S: Sink>(text: &mut String, ack: &Ack, sink: &mut S) -> Result<(), Fault>
+    ensures all { OnOk result (IsTrue (S.tells sink.old) → Gathers (S.bytes sink.old) (string_bytes text.old) (S.bytes sink.new) (string_bytes text.new) (ack_line ack.now)) }
+    ensures part { IsTrue (S.tells sink.old) → AddsPrefix (S.bytes sink.old) (S.bytes sink.new) (string_bytes text.old ++ ack_line ack.now) }
+    ensures told { S.tells sink.new ≡ S.tells sink.old }
+    ensures cause { HasCause (S.faults sink.old) (S.faults sink.new) result }
+{
+    push_ack(text, ack)?;
+    write_full(text, sink)
+}
+
+fn write_events<S: Sink>(text: &mut String, scripts: &[Script], events: &[Event], sink: &mut S) -> Result<(), Fault>
+    ensures all { OnOk result (IsTrue (S.tells sink.old) → Gathers (S.bytes sink.old) (string_bytes text.old) (S.bytes sink.new) (string_bytes text.new) (flat_map (event_line scripts.now) events.now)) }
+    ensures part { IsTrue (S.tells sink.old) → AddsPrefix (S.bytes sink.old) (S.bytes sink.new) (string_bytes text.old ++ flat_map (event_line scripts.now) events.now) }
+    ensures told { S.tells sink.new ≡ S.tells sink.old }
+    ensures cause { HasCause (S.faults sink.old) (S.faults sink.new) result }
+{
+    for event in events {
+        write_event(text, scripts, event, sink)?;
+    }
+    Ok(())
+}
+
+fn write_acks<S: Sink>(text: &mut String, acks: &[Ack], sink: &mut S) -> Result<(), Fault>
+    ensures all { OnOk result (IsTrue (S.tells sink.old) → Gathers (S.bytes sink.old) (string_bytes text.old) (S.bytes sink.new) (string_bytes text.new) (flat_map ack_line acks.now)) }
+    ensures part { IsTrue (S.tells sink.old) → AddsPrefix (S.bytes sink.old) (S.bytes sink.new) (string_bytes text.old ++ flat_map ack_line acks.now) }
+    ensures told { S.tells sink.new ≡ S.tells sink.old }
+    ensures cause { HasCause (S.faults sink.old) (S.faults sink.new) result }
+{
+    for ack in acks {
+        write_ack(text, ack, sink)?;
+    }
+    Ok(())
+}
+
+/// Writes the lines of the events, in order, and then a line for each acknowledgement. The scripts are those of clients
+/// 1, 2, .. A fault of the sink, or want of memory, leaves a front of that text written.
+pub fn transcript<S: Sink>(alloc: Global, scripts: &[Script], events: &[Event], acks: &[Ack], sink: &mut S) -> Result<(), Fault>
+    ensures all { OnOk result (IsTrue (S.tells sink.old) → S.bytes sink.new ≡ S.bytes sink.old ++ (flat_map (event_line scripts.now) events.now ++ flat_map ack_line acks.now)) }
+    ensures part { IsTrue (S.tells sink.old) → AddsPrefix (S.bytes sink.old) (S.bytes sink.new) (flat_map (event_line scripts.now) events.now ++ flat_map ack_line acks.now) }
+    ensures told { S.tells sink.new ≡ S.tells sink.old }
+    ensures cause { HasCause (S.faults sink.old) (S.faults sink.new) result }
+{
+    let mut text = String::new(alloc);
+    write_events(&mut text, scripts, events, sink)?;
+    write_acks(&mut text, acks, sink)?;
+    write_gathered(&mut text, sink)
+}
