@@ -1,3 +1,5 @@
+pub mod Endings
 pub mod Plain
 pub mod Promise
 pub mod Reading
+pub mod Runs

@@ -2,5 +2,6 @@
 #![tactic(auto)]
 
 mod plain;
+mod report;
 
 pub use plain::PlainFault;

@@ -2,7 +2,9 @@
 #![tactic(auto)]
 
 mod cause;
+mod files;
 mod folder;
+mod out;
 
 use std::io;
 
