@@ -1,2 +1,3 @@
--- Lemmas on plain scripts.
+-- Lemmas on plain scripts, and on texts.
 mod PlainLines
+mod Texts

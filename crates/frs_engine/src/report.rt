@@ -1,5 +1,5 @@
 //! Prints what a run did, and answers its status.
-ghost use Rattle.std.specs.Prelude.{◌≡◌, ◌≢◌, ◌++◌, [], ◌∷◌, IsTrue, OnOk};
+ghost use Rattle.std.specs.Prelude.{◌≡◌, ◌≢◌, ◌↔◌, ◌++◌, [], ◌∷◌, IsTrue, OnOk};
 ghost use Rattle.frs_disk.specs.Disk.{HasCause, Rose};
 ghost use Rattle.frs_engine.specs.Endings.{status_of, line_of, IsAlone};
 ghost use Rattle.frs_engine.specs.Runs.{text_of, last_line, Prints, PrintsAll, Answers};
@@ -79,10 +79,11 @@ fn print<S: Sink>(alloc: Global, outcome: &Outcome, sink: &mut S) -> Result<(), 
     ensures told { S.tells sink.new ≡ S.tells sink.old }
     ensures cause { HasCause (S.faults sink.old) (S.faults sink.new) result }
 {
-    if !outcome.ending.is_alone() {
-        let scripts = slice::from_ref(&outcome.script);
-        transcript(alloc, scripts, &outcome.events, &outcome.acks, sink)?;
+    if outcome.ending.is_alone() {
+        return sink.write(outcome.ending.line());
     }
+    let scripts = slice::from_ref(&outcome.script);
+    transcript(alloc, scripts, &outcome.events, &outcome.acks, sink)?;
     sink.write(outcome.ending.line())
 }
 
