@@ -1,5 +1,7 @@
 -- How a run ends, before anything is printed.
-use Rattle.std.specs.Prelude.{◌≡◌, ℕ, List, [], ◌∷◌, Option, Some, codes}
+use Rattle.std.specs.Prelude.{◌≡◌, ℕ, Bool, IsTrue, List, [], ◌∷◌, Option, Some, None, codes}
+use Rattle.frs_disk.specs.declared.disk.Fault.{Fault}
+use Rattle.frs_disk.specs.declared.disk.Fault.TheVariants as faults
 use Rattle.frs_history.specs.declared.command.Line.{Line}
 use Rattle.frs_engine.specs.Plain.{IsPlainScript}
 use Rattle.frs_text.specs.Text.{Text, line}
@@ -27,6 +29,14 @@ IsAlone Unread = Unit {0}
 IsAlone Later = Unit {0}
 IsAlone other = ⊥
 
--- the script is in the plain form, and these are its bytes
-abbrev pub IsScriptOf : List Line → Option (List ℕ) → Type 0
-IsScriptOf script bytes = (file : List ℕ) × (bytes ≡ Some file) × IsPlainScript script file
+-- The script is in the plain form, and its bytes are these, where they are told.
+pub record IsRead (script : List Line) (told : Bool) (bytes : Option (List ℕ)) : Type 0 where
+  pub file : List ℕ
+  pub plain : IsPlainScript script file
+  pub is : IsTrue told → bytes ≡ Some file
+
+-- how a run ends that stopped for this
+abbrev pub ending_by : Option Fault → Ending
+ending_by None = Closed
+ending_by (Some faults.Failed) = Disk
+ending_by (Some faults.Memory) = Memory

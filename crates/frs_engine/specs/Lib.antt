@@ -3,3 +3,4 @@ pub mod Plain
 pub mod Promise
 pub mod Reading
 pub mod Runs
+pub mod Stops

@@ -1,5 +1,5 @@
 -- What a run answers and prints, and why.
-use Rattle.std.specs.Prelude.{◌≡◌, ◌≢◌, ◌⊎◌, ℕ, ◌≤◌, Bool, ◌&&◌, ◌||◌, ◌==◌, nat_le, length, List, [], ◌∷◌, ◌++◌, Option, Some, None, IsTrue, if◌then◌else◌, codes}
+use Rattle.std.specs.Prelude.{◌≡◌, ◌≢◌, ◌⊎◌, ℕ, ◌-◌, ◌^◌, ◌<◌, ◌≤◌, Bool, ◌&&◌, ◌||◌, ◌==◌, nat_le, length, List, [], ◌∷◌, ◌++◌, Option, Some, None, IsTrue, if◌then◌else◌, codes}
 use Rattle.std.specs.FinMap.{keys}
 use Rattle.frs_history.specs.declared.command.Line.{Line}
 use Rattle.frs_history.specs.declared.event.Ack.{Ack}
@@ -91,6 +91,10 @@ pub record IsRun (decided : ℕ) (told : Bool) (bytes : Option (List ℕ)) (empt
   pub survives : empty → Survives (commits_of_run script events) acks left now
   pub completes : decided ≡ 0 → Completes script events acks
   pub shows_all : decided ≡ 0 → empty → (image : Image) → now image → ShowsAll (commits_of_run script events) image
+
+-- a count didn't rise, and doesn't stand at its type's end
+abbrev pub IsSteady : ℕ → ℕ → Type 0
+IsSteady before now = (now ≡ before) × (before < 2 ^ 64 - 1)
 
 -- the plan names a file, or has the numbers of a demo within their limits
 abbrev pub HasWork : RunPlan → Type 0

@@ -3,5 +3,8 @@
 
 mod plain;
 mod report;
+mod run;
+mod session;
 
-pub use plain::PlainFault;
+pub use frs_text::{FileNames, RunPlan};
+pub use run::{Ended, frs_run};
