@@ -8,3 +8,6 @@ mod session;
 
 pub use frs_text::{FileNames, RunPlan};
 pub use run::{Ended, frs_run};
+
+#[cfg(test)]
+mod tests;
