@@ -1,2 +1,4 @@
 //! The top calls of the store: they run scripts against a disk, and carry its promise.
 #![tactic(auto)]
+
+mod log;
