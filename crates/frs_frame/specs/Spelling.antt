@@ -1,37 +1,48 @@
--- How a record is spelled in bytes.
-use Rattle.std.specs.Prelude.{ℕ, List, [], ◌∷◌, ◌++◌, length}
-use Rattle.std.specs.Int.{w16, w64, to_be_bytes}
+-- The bytes of a record: its kind, its three numbers and what its action holds. Numbers are big-endian.
+use Rattle.std.specs.Prelude.{ℕ, List, [], ◌∷◌, ◌++◌, length, take, drop}
+use Rattle.std.specs.Int.{Width, w8, w16, w64, to_be_bytes}
 use Rattle.frs_types.specs.declared.record.Action.{Action}
 use Rattle.frs_types.specs.declared.record.Action.TheVariants.{Put, Remove, Delete, Begin, Commit, Compaction, Mark, Abandon}
 use Rattle.frs_types.specs.declared.record.Record.{Record}
+use Rattle.frs_frame.specs.Kinds.{kind_of, code}
 
--- an id and a key have one byte of length, a value has two
-abbrev pub short_word : List ℕ → List ℕ
-short_word word = length word ∷ word
+-- the widths of the lengths that stand before words
+abbrev pub id_width : Width
+id_width = w8
 
-abbrev pub long_word : List ℕ → List ℕ
-long_word word = to_be_bytes w16 (length word) ++ word
+abbrev pub key_width : Width
+key_width = w8
 
-abbrev pub kind : Action → ℕ
-kind (Put id key value) = 1
-kind (Remove id key) = 2
-kind (Delete id) = 3
-kind Begin = 4
-kind Commit = 5
-kind (Compaction id key value) = 6
-kind Mark = 7
-kind Abandon = 8
+abbrev pub value_width : Width
+value_width = w16
 
+-- a word is its length and its bytes
+abbrev pub word_bytes : Width → List ℕ → List ℕ
+word_bytes width word = to_be_bytes width (length word) ++ word
+
+-- what stands behind the head, by the kind
 abbrev pub payload : Action → List ℕ
-payload (Put id key value) = short_word id ++ short_word key ++ long_word value
-payload (Remove id key) = short_word id ++ short_word key
-payload (Delete id) = short_word id
+payload (Put id key value) = word_bytes id_width id ++ word_bytes key_width key ++ word_bytes value_width value
+payload (Remove id key) = word_bytes id_width id ++ word_bytes key_width key
+payload (Delete id) = word_bytes id_width id
 payload Begin = []
 payload Commit = []
-payload (Compaction id key value) = short_word id ++ short_word key ++ long_word value
+payload (Compaction id key value) = word_bytes id_width id ++ word_bytes key_width key ++ word_bytes value_width value
 payload Mark = []
 payload Abandon = []
 
+-- the three numbers of the head: the transaction, the lowest and the named LSN
+abbrev pub numbers : ℕ → ℕ → ℕ → List ℕ
+numbers tx lowest named = to_be_bytes w64 tx ++ to_be_bytes w64 lowest ++ to_be_bytes w64 named
+
 -- the bytes of a record
 abbrev pub spelling : Record → List ℕ
-spelling r = kind r.action ∷ to_be_bytes w64 r.tx ++ to_be_bytes w64 r.lowest ++ to_be_bytes w64 r.named ++ payload r.action
+spelling r = code (kind_of r.action) ∷ numbers r.tx r.lowest r.named ++ payload r.action
+
+-- the record of an action with no number yet
+abbrev pub unnumbered : Action → Record
+unnumbered action = record { tx = 0; lowest = 0; named = 0; action = action }
+
+-- the bytes of a record with other numbers in its head
+abbrev pub renumbered : ℕ → ℕ → ℕ → List ℕ → List ℕ
+renumbered tx lowest named bytes = take 1 bytes ++ numbers tx lowest named ++ drop 25 bytes

@@ -1,5 +1,5 @@
 -- Records: which ones may stand at an LSN, and logs.
-use Rattle.std.specs.Prelude.{ℕ, ◌+◌, ◌-◌, Bool, true, ◌&&◌, ◌==◌, nat_lt, nat_le, List, [], ◌∷◌, ◌++◌, length, drop, None, IsTrue, unwrap_or, option_map}
+use Rattle.std.specs.Prelude.{ℕ, ◌+◌, ◌-◌, ◌^◌, ◌<◌, Bool, true, ◌&&◌, ◌==◌, nat_lt, nat_le, List, [], ◌∷◌, ◌++◌, length, drop, None, IsTrue, unwrap_or, option_map}
 use Rattle.std.specs.List.{last_or}
 use Rattle.frs_types.specs.declared.record.Action.{Action}
 use Rattle.frs_types.specs.declared.record.Action.TheVariants.{Put, Remove, Delete, Begin, Commit, Compaction, Mark, Abandon}
@@ -7,14 +7,24 @@ use Rattle.frs_types.specs.declared.record.Record.{Record}
 
 -- ---- what may stand at an LSN
 
+-- the number of bytes that an id, a key and a value may have
+abbrev pub is_id_len : ℕ → Bool
+is_id_len n = nat_le 1 n && nat_le n 64
+
+abbrev pub is_key_len : ℕ → Bool
+is_key_len n = nat_le 1 n && nat_le n 255
+
+abbrev pub is_value_len : ℕ → Bool
+is_value_len n = nat_le n 65535
+
 abbrev pub is_id : List ℕ → Bool
-is_id word = nat_le 1 (length word) && nat_le (length word) 64
+is_id word = is_id_len (length word)
 
 abbrev pub is_key : List ℕ → Bool
-is_key word = nat_le 1 (length word) && nat_le (length word) 255
+is_key word = is_key_len (length word)
 
 abbrev pub is_value : List ℕ → Bool
-is_value word = nat_le (length word) 65535
+is_value word = is_value_len (length word)
 
 -- the words of an action are within their limits
 abbrev pub has_words : Action → Bool
@@ -38,6 +48,28 @@ kind_allows n Abandon tx named = nat_lt 0 tx && nat_lt tx n && (named == 0)
 -- the record may stand at the LSN n
 abbrev pub allowed : ℕ → Record → Bool
 allowed n r = kind_allows n r.action r.tx r.named && nat_lt r.named n && nat_lt 0 r.lowest && nat_le r.lowest n && has_words r.action
+
+-- what a record can hold, whether or not it may stand in a log: each number fits its type, and each word its limit
+pub record Fits (r : Record) : Type 0 where
+  pub tx : r.tx < 2 ^ 64
+  pub lowest : r.lowest < 2 ^ 64
+  pub named : r.named < 2 ^ 64
+  pub words : IsTrue (has_words r.action)
+
+-- the transaction and the named LSN that each kind allows at some LSN
+abbrev pub kind_permits : Action → ℕ → ℕ → Bool
+kind_permits (Put id key value) tx named = true
+kind_permits (Remove id key) tx named = true
+kind_permits (Delete id) tx named = named == 0
+kind_permits Begin tx named = nat_lt 0 tx && (named == 0)
+kind_permits Commit tx named = nat_lt 0 tx && (named == 0)
+kind_permits (Compaction id key value) tx named = (tx == 0) && nat_lt 0 named
+kind_permits Mark tx named = (tx == 0) && (named == 0)
+kind_permits Abandon tx named = nat_lt 0 tx && (named == 0)
+
+-- the record may stand at some LSN
+abbrev pub well_formed : Record → Bool
+well_formed r = kind_permits r.action r.tx r.named && nat_lt 0 r.lowest && has_words r.action
 
 -- ---- logs
 
