@@ -1,4 +1,5 @@
 //! The top calls of the store: they run scripts against a disk, and carry its promise.
 #![tactic(auto)]
 
+mod entries;
 mod log;

@@ -10,15 +10,15 @@ use frs_types::NoMemory;
 use std::alloc::Global;
 
 /// The bytes behind the gate of a chunk with one record, up to and with the closed gate of the next chunk.
-pub(crate) fn chunk_body(alloc: Global, lsn: u64, record: &[u8]) -> Result<Vec<u8>, NoMemory>
-    requires { length record.now < 2 ^ 32 }
-    ensures { IfOk result (λ body. body.items ≡ chunk_of lsn record.now ++ 0 ∷ []) }
+pub(crate) fn chunk_body(alloc: Global, lsn: u64, bytes: &[u8]) -> Result<Vec<u8>, NoMemory>
+    requires { length bytes.now < 2 ^ 32 }
+    ensures { IfOk result (λ body. body.items ≡ chunk_of lsn bytes.now ++ 0 ∷ []) }
 {
     let mut body = Vec::with_capacity(alloc, 17)?;
-    body.extend_from_slice(&(record.len() as u32).to_be_bytes())?;
+    body.extend_from_slice(&(bytes.len() as u32).to_be_bytes())?;
     body.extend_from_slice(&1u32.to_be_bytes())?;
     body.extend_from_slice(&lsn.to_be_bytes())?;
-    body.extend_from_slice(record)?;
+    body.extend_from_slice(bytes)?;
     body.push(0)?;
     Ok(body)
 }
