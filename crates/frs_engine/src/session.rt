@@ -1,0 +1,157 @@
+//! The run of one script of puts and gets by one client, over a disk that is empty.
+ghost use Rattle.std.specs.Prelude.{◌≡◌, ◌+◌, ◌<◌, ◌^◌, ◌++◌, ℕ, List, [], ◌∷◌, None, Some, length, map, IsTrue, IfOk, OnOk, OnErr, option_map, unwrap_or, vec_len, vec_capacity, slice_get};
+ghost use Rattle.std.specs.FinMap.{get, empty};
+ghost use Rattle.std.specs.FinMap.Entries.{put, find};
+ghost use Rattle.frs_types.specs.declared.record.Action.TheVariants as action;
+ghost use Rattle.frs_types.specs.declared.record.Record.{Record};
+ghost use Rattle.frs_types.specs.Maps.{place_cmp};
+ghost use Rattle.frs_types.specs.Lawful.{Held};
+ghost use Rattle.frs_types.specs.Records.{has_words};
+ghost use Rattle.frs_frame.specs.Spelling.{spelling};
+ghost use Rattle.frs_disk.specs.Disk.{Image, AgreesElsewhere, Passes, Within, HasCause};
+ghost use Rattle.frs_history.specs.declared.command.Command.TheVariants as command;
+ghost use Rattle.frs_history.specs.declared.event.Reply.TheVariants as reply;
+ghost use Rattle.frs_history.specs.Machine.{value_or_none};
+ghost use Rattle.frs_history.specs.Scripts.{is_script};
+ghost use Rattle.frs_engine.specs.Entries.{table};
+ghost use Rattle.frs_engine.specs.Log.{chunk_of};
+ghost use Rattle.frs_engine.specs.Promise.{has_puts_and_gets, commits_of_run, Tells, Survives, ShowsAll, Completes};
+ghost use Rattle.frs_engine.specs.Session.{drawn, drawn_put, answer, IsAnswered, IsReady, IsOpen, IsToldAlike, commits_so_far, Extends, Known, KnownAcked, StopHasCause};
+
+use crate::entries::{find_entry, lowest_of, set_entry};
+use crate::log::{append_chunk, chunk_body};
+use frs_disk::{Disk, Fault};
+use frs_frame::encode_payload;
+use frs_history::{Ack, Command, Event, Line, Reply, What};
+use frs_segment::open_segment;
+use frs_types::{Action, Entry, Key, MapId, NoMemory, Value};
+use std::alloc::Global;
+
+/// The one client.
+const CLIENT: u32 = 1;
+
+/// The number of the one segment.
+const SEGMENT: u64 = 1;
+
+/// The offset of the first chunk's gate in a segment.
+const FIRST_GATE: u64 = 22;
+
+/// What a run did.
+#[derive(Drop)]
+pub(crate) struct Session {
+    /// What was answered, in order.
+    pub(crate) events: Vec<Event>,
+    /// Which puts are durable, in order.
+    pub(crate) acks: Vec<Ack>,
+    /// Why it ended before its end.
+    pub(crate) stop: Option<Fault>,
+}
+
+/// A run on its way.
+#[derive(Drop)]
+struct Run<'a> {
+    /// The lines of the script.
+    script: &'a [Line],
+    /// How many of them were answered.
+    done: usize,
+    /// The current entries, in the order of their places.
+    entries: Vec<Entry>,
+    /// What was answered.
+    events: Vec<Event>,
+    /// Which puts are durable.
+    acks: Vec<Ack>,
+    /// The offset of the closed gate at the end of the segment.
+    gate_at: u64,
+    /// The LSN of the next record.
+    next: u64,
+}
+
+impl<'a> Run<'a> {
+    // The chunk of a record that says this, outside of transactions.
+    fn chunk_with(&self, alloc: Global, what: &Action, named: u64) -> Result<Vec<u8>, NoMemory>
+        requires { IsTrue (has_words what.now) }
+        ensures { IfOk result (λ body. body.items ≡ chunk_of self.now.next (spelling (drawn (table self.now.entries.items) self.now.next named what.now)) ++ 0 ∷ []) }
+    {
+        let mut framed = encode_payload(alloc, what)?;
+        framed.patch(0, lowest_of(&self.entries, self.next), named);
+        chunk_body(alloc, self.next, framed.bytes())
+    }
+
+    // The chunk of a put.
+    fn put_chunk(
+        &self,
+        alloc: Global,
+        id: &MapId,
+        key: &Key,
+        value: &Value,
+    ) -> Result<Vec<u8>, NoMemory>
+        ensures chunk { IfOk result (λ body. body.items
+            ≡ chunk_of self.now.next (spelling (drawn_put (table self.now.entries.items) self.now.next id.now key.now value.now)) ++ 0 ∷ []) }
+        ensures words { IsTrue (has_words (action.Put id.now key.now value.now)) }
+    {
+        prove!(id.bytes().len() <= 64 && key.bytes().len() <= 255);
+        prove!(value.bytes().len() <= 65_535);
+        let named = match find_entry(&self.entries, id, key) {
+            Some(entry) => entry.lsn,
+            None => 0,
+        };
+        let what = Action::Put {
+            id: id.copy(alloc)?,
+            key: key.copy(alloc)?,
+            value: value.copy(alloc)?,
+        };
+        self.chunk_with(alloc, &what, named)
+    }
+
+    // Answers a put, and gives its chunk. The put isn't in the history where memory runs out.
+    fn prepare_put(
+        &mut self,
+        alloc: Global,
+        line: u32,
+        id: &MapId,
+        key: &Key,
+        value: &Value,
+    ) -> Result<Vec<u8>, NoMemory>
+        ensures chunk { IfOk result (λ body. body.items
+            ≡ chunk_of self.old.next (spelling (drawn_put (table self.old.entries.items) self.old.next id.now key.now value.now)) ++ 0 ∷ []) }
+        ensures words { IsTrue (has_words (action.Put id.now key.now value.now)) }
+        ensures entries { OnOk result (table self.new.entries.items
+            ≡ put place_cmp (id.now, key.now) (record { value = value.now; lsn = self.old.next }) (table self.old.entries.items)) }
+        ensures events { OnOk result (self.new.events.items ≡ self.old.events.items ++ answer line reply.Done ∷ []) }
+        ensures refused { OnErr result (self.new.events.items ≡ self.old.events.items) }
+        ensures acks { self.new.acks.items ≡ self.old.acks.items }
+        ensures room { OnOk result (vec_len self.new.acks < vec_capacity self.new.acks) }
+        ensures script { self.new.script ≡ self.old.script }
+        ensures done { self.new.done ≡ self.old.done }
+        ensures gate_at { self.new.gate_at ≡ self.old.gate_at }
+        ensures next { self.new.next ≡ self.old.next }
+    {
+        let body = self.put_chunk(alloc, id, key, value)?;
+        let entry = Entry {
+            id: id.copy(alloc)?,
+            key: key.copy(alloc)?,
+            value: value.copy(alloc)?,
+            lsn: self.next,
+        };
+        self.acks.reserve(1)?;
+        set_entry(&mut self.entries, entry)?;
+        self.events.push(Event {
+            client: CLIENT,
+            line,
+            what: What::Answered { reply: Reply::Done },
+        })?;
+        Ok(body)
+    }
+
+    // What a get is answered.
+    fn reply_of_get(&self, alloc: Global, id: &MapId, key: &Key) -> Result<Reply, NoMemory>
+        ensures { IfOk result (λ r. r ≡ value_or_none (option_map (λ (h : Held). h.value) (find place_cmp (id.now, key.now) (table self.now.entries.items)))) }
+    {
+        match find_entry(&self.entries, id, key) {
+            Some(entry) => Ok(Reply::Found {
+                value: entry.value.copy(alloc)?,
+            }),
+            None => Ok(Reply::Absent),
+        }
+    }
+}
