@@ -1,5 +1,5 @@
 -- A run of one script of puts and gets on its way: what it has written, answered and acknowledged so far.
-use Rattle.std.specs.Prelude.{◌≡◌, ℕ, ◌+◌, ◌*◌, ◌^◌, ◌≤◌, Bool, ◌&&◌, nat_lt, nat_le, List, [], ◌∷◌, ◌++◌, map, length, Option, Some, None, IsTrue}
+use Rattle.std.specs.Prelude.{◌≡◌, ℕ, ◌+◌, ◌*◌, ◌^◌, ◌<◌, ◌≤◌, Bool, ◌&&◌, nat_lt, nat_le, List, [], ◌∷◌, ◌++◌, map, length, Option, Some, None, IsTrue}
 use Rattle.std.specs.List.{list_all}
 use Rattle.std.specs.FinMap.{get}
 use Rattle.frs_types.specs.declared.record.Action.{Action}
@@ -87,13 +87,18 @@ pub record IsReady {D : Type 0} (tells : D → Bool) (reads : D → Image) (may_
 abbrev pub IsOpen : Run → Type 0
 IsOpen r = r.next ≡ length r.acks.items + 2
 
+-- the numbers of a run that is far from their types' ends
+pub record HasRoom (r : Run) : Type 0 where
+  pub next : r.next < 2 ^ 40
+  pub done : r.done < 2 ^ 40
+
 -- what the client was told stays
 pub record IsToldAlike (old new : Run) : Type 0 where
   pub script : new.script ≡ old.script
   pub done : new.done ≡ old.done
   pub entries : new.entries ≡ old.entries
-  pub events : new.events ≡ old.events
-  pub acks : new.acks ≡ old.acks
+  pub events : new.events.items ≡ old.events.items
+  pub acks : new.acks.items ≡ old.acks.items
 
 -- the commits with more of them
 abbrev pub Extends : List Changes → List Changes → Type 0

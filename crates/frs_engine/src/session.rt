@@ -1,5 +1,5 @@
 //! The run of one script of puts and gets by one client, over a disk that is empty.
-ghost use Rattle.std.specs.Prelude.{◌≡◌, ◌+◌, ◌<◌, ◌^◌, ◌++◌, ℕ, List, [], ◌∷◌, None, Some, length, map, IsTrue, IfOk, OnOk, OnErr, option_map, unwrap_or, vec_len, vec_capacity, slice_get};
+ghost use Rattle.std.specs.Prelude.{◌≡◌, ◌+◌, ◌<◌, ◌≤◌, ◌^◌, ◌++◌, ℕ, List, [], ◌∷◌, None, Some, length, map, IsTrue, IfOk, OnOk, OnErr, option_map, unwrap_or, vec_len, vec_capacity, slice_get};
 ghost use Rattle.std.specs.FinMap.{get, empty};
 ghost use Rattle.std.specs.FinMap.Entries.{put, find};
 ghost use Rattle.frs_types.specs.declared.record.Action.TheVariants as action;
@@ -16,7 +16,7 @@ ghost use Rattle.frs_history.specs.Scripts.{is_script};
 ghost use Rattle.frs_engine.specs.Entries.{table};
 ghost use Rattle.frs_engine.specs.Log.{chunk_of};
 ghost use Rattle.frs_engine.specs.Promise.{has_puts_and_gets, commits_of_run, Tells, Survives, ShowsAll, Completes};
-ghost use Rattle.frs_engine.specs.Session.{drawn, drawn_put, answer, IsAnswered, IsReady, IsOpen, IsToldAlike, commits_so_far, Extends, Known, KnownAcked, StopHasCause};
+ghost use Rattle.frs_engine.specs.Session.{drawn, drawn_put, answer, IsAnswered, IsReady, IsOpen, HasRoom, IsToldAlike, commits_so_far, Extends, Known, KnownAcked, StopHasCause};
 
 use crate::entries::{find_entry, lowest_of, set_entry};
 use crate::log::{append_chunk, chunk_body};
@@ -153,5 +153,93 @@ impl<'a> Run<'a> {
             }),
             None => Ok(Reply::Absent),
         }
+    }
+
+    // Writes a put, and acknowledges it once its chunk is durable.
+    fn put<D: Disk>(
+        &mut self,
+        alloc: Global,
+        disk: &mut D,
+        line: u32,
+        id: &MapId,
+        key: &Key,
+        value: &Value,
+    ) -> Result<(), Fault>
+        requires ready { IsReady D.tells D.reads D.may_leave disk.old self.old }
+        requires open { IsOpen self.old }
+        requires room { HasRoom self.old }
+        requires next { slice_get self.old.script.now self.old.done ≡ Some (record { number = line; command = command.Put id.now key.now value.now }) }
+        ensures ready { OnOk result (IsReady D.tells D.reads D.may_leave disk.new self.new) }
+        ensures open { OnOk result (IsOpen self.new) }
+        ensures drawn { OnOk result (self.new.next ≤ self.old.next + 1) }
+        ensures done { OnOk result (self.new.done ≡ self.old.done + 1) }
+        ensures script { self.new.script ≡ self.old.script }
+        ensures acks { OnErr result (self.new.acks.items ≡ self.old.acks.items) }
+        ensures tells { Tells self.new.script.now self.new.events.items self.new.acks.items }
+        ensures extends { Extends (commits_so_far self.old) (commits_so_far self.new) }
+        ensures images { IsTrue (D.tells disk.old) → Within D.moment D.left_since disk.old disk.new
+            (λ c. KnownAcked (commits_so_far self.new) self.old.acks.items (get c 1)) }
+        ensures elsewhere { Within D.moment D.left_since disk.old disk.new (AgreesElsewhere 1 (D.may_leave disk.old)) }
+        ensures told { D.tells disk.new ≡ D.tells disk.old }
+        ensures time { Passes D.moment D.left_since disk.old disk.new }
+        ensures cause { HasCause (D.faults disk.old) (D.faults disk.new) result }
+    {
+        let Ok(body) = self.prepare_put(alloc, line, id, key, value) else {
+            return Err(Fault::Memory);
+        };
+        append_chunk(disk, SEGMENT, self.gate_at, &body)?;
+        self.acks.push_reserved(Ack {
+            client: CLIENT,
+            line,
+            lsn: self.next,
+        });
+        self.gate_at += body.len() as u64;
+        self.next += 1;
+        self.done += 1;
+        Ok(())
+    }
+
+    // Writes a mark.
+    fn mark<D: Disk>(&mut self, alloc: Global, disk: &mut D) -> Result<(), Fault>
+        requires ready { IsReady D.tells D.reads D.may_leave disk.old self.old }
+        requires room { HasRoom self.old }
+        ensures ready { OnOk result (IsReady D.tells D.reads D.may_leave disk.new self.new) }
+        ensures drawn { OnOk result (self.new.next ≡ self.old.next + 1) }
+        ensures kept { IsToldAlike self.old self.new }
+        ensures images { IsTrue (D.tells disk.old) → Within D.moment D.left_since disk.old disk.new
+            (λ c. KnownAcked (commits_so_far self.new) self.old.acks.items (get c 1)) }
+        ensures elsewhere { Within D.moment D.left_since disk.old disk.new (AgreesElsewhere 1 (D.may_leave disk.old)) }
+        ensures told { D.tells disk.new ≡ D.tells disk.old }
+        ensures time { Passes D.moment D.left_since disk.old disk.new }
+        ensures cause { HasCause (D.faults disk.old) (D.faults disk.new) result }
+    {
+        let Ok(body) = self.chunk_with(alloc, &Action::Mark, 0) else {
+            return Err(Fault::Memory);
+        };
+        append_chunk(disk, SEGMENT, self.gate_at, &body)?;
+        self.gate_at += body.len() as u64;
+        self.next += 1;
+        Ok(())
+    }
+
+    // Answers a get.
+    fn get(&mut self, alloc: Global, line: u32, id: &MapId, key: &Key) -> Result<(), NoMemory>
+        requires room { HasRoom self.old }
+        requires next { slice_get self.old.script.now self.old.done ≡ Some (record { number = line; command = command.Get id.now key.now }) }
+        ensures ready { OnOk result ((rs : List Record) → IsAnswered rs self.old → IsAnswered rs self.new) }
+        ensures done { OnOk result (self.new.done ≡ self.old.done + 1) }
+        ensures refused { OnErr result (IsToldAlike self.old self.new) }
+        ensures script { self.new.script ≡ self.old.script }
+        ensures acks { self.new.acks ≡ self.old.acks }
+        ensures next { self.new.next ≡ self.old.next }
+    {
+        let reply = self.reply_of_get(alloc, id, key)?;
+        self.events.push(Event {
+            client: CLIENT,
+            line,
+            what: What::Answered { reply },
+        })?;
+        self.done += 1;
+        Ok(())
     }
 }
