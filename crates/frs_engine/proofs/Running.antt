@@ -27,7 +27,7 @@ use Rattle.frs_engine.specs.declared.session.Run.{Run}
 use Rattle.frs_engine.specs.Entries.{table}
 use Rattle.frs_engine.specs.Log.{IsStage, IsAtGate, chunk_of}
 use Rattle.frs_engine.specs.Promise.{commits_of_run, owed_acks, puts, puts_by, Tells, ShowsPuts}
-use Rattle.frs_engine.specs.Session.{drawn, drawn_put, front, state_at, answer, IsLog, IsAnswered, IsReady, IsOpen, HasRoom, commits_so_far, Extends, as_files, Known, KnownAcked}
+use Rattle.frs_engine.specs.Session.{drawn, drawn_put, front, state_at, answer, IsLog, IsAnswered, IsReady, IsOpen, HasRoom, IsToldAlike, commits_so_far, Extends, as_files, Known, KnownAcked}
 use Rattle.frs_engine.proofs.Answering.{put_run, put_commits, put_owed, get_run, get_commits, get_owed, acks_within, length-acks_from}
 use Rattle.frs_engine.proofs.Logging.{front-next, puts-push, gate_after, log-put, log-mark, put_long, mark_long}
 use Rattle.frs_engine.proofs.Showing.{stage_shows}
@@ -233,3 +233,15 @@ module _ (rs : List Record) (old new : Run) (a : IsAnswered rs old) (n : ℕ) (i
         size = omega (arith, gate, next_is, a.size);
         short = omega (arith, next_is, a.short);
       }
+
+-- ---- what stays where nothing is answered
+
+pub alike_commits : (old new : Run) → IsToldAlike old new → commits_so_far old ≡ commits_so_far new
+alike_commits old new alike =
+    ap (λ (s : List Line). commits_of_run s old.events.items) (ap (λ s. s.now) (sym alike.script)) ∙ ap (commits_of_run new.script.now) (sym alike.events)
+
+pub alike_tells : (old new : Run) → IsToldAlike old new → Tells old.script.now old.events.items old.acks.items → Tells new.script.now new.events.items new.acks.items
+alike_tells old new alike tells =
+    subst (λ (l : List Ack). Tells new.script.now new.events.items l) (sym alike.acks)
+    (subst (λ (es : List Event). Tells new.script.now es old.acks.items) (sym alike.events)
+    (subst (λ (s : List Line). Tells s old.events.items old.acks.items) (ap (λ s. s.now) (sym alike.script)) tells))

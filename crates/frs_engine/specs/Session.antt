@@ -92,6 +92,15 @@ pub record HasRoom (r : Run) : Type 0 where
   pub next : r.next < 2 ^ 40
   pub done : r.done < 2 ^ 40
 
+-- nothing was written or answered yet, and the first gate is behind a segment's header
+pub record IsFresh (r : Run) : Type 0 where
+  pub done : r.done ≡ 0
+  pub entries : r.entries.items ≡ []
+  pub events : r.events.items ≡ []
+  pub acks : r.acks.items ≡ []
+  pub gate_at : r.gate_at ≡ 22
+  pub next : r.next ≡ 1
+
 -- what the client was told stays
 pub record IsToldAlike (old new : Run) : Type 0 where
   pub script : new.script ≡ old.script
@@ -117,6 +126,10 @@ Known commits file = (n : ℕ) × (j : ℕ) × ShowsPuts (as_files file) commits
 -- the same, with every acknowledged put
 abbrev pub KnownAcked : List Changes → List Ack → Option (List ℕ) → Type 0
 KnownAcked commits acks file = (n : ℕ) × (j : ℕ) × IsTrue (list_all (λ (a : Ack). nat_le a.lsn n) acks) × (length acks ≤ j) × ShowsPuts (as_files file) commits n j
+
+-- every commit
+abbrev pub KnownAll : List Changes → Option (List ℕ) → Type 0
+KnownAll commits file = (n : ℕ) × ShowsPuts (as_files file) commits n (length commits)
 
 -- ---- why a run stopped
 

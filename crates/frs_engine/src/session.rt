@@ -16,7 +16,7 @@ ghost use Rattle.frs_history.specs.Scripts.{is_script};
 ghost use Rattle.frs_engine.specs.Entries.{table};
 ghost use Rattle.frs_engine.specs.Log.{chunk_of};
 ghost use Rattle.frs_engine.specs.Promise.{has_puts_and_gets, commits_of_run, Tells, Survives, ShowsAll, Completes};
-ghost use Rattle.frs_engine.specs.Session.{drawn, drawn_put, answer, IsAnswered, IsReady, IsOpen, HasRoom, IsToldAlike, commits_so_far, Extends, Known, KnownAcked, StopHasCause};
+ghost use Rattle.frs_engine.specs.Session.{drawn, drawn_put, answer, IsAnswered, IsReady, IsOpen, HasRoom, IsToldAlike, IsFresh, commits_so_far, Extends, Known, KnownAcked, KnownAll, StopHasCause};
 
 use crate::entries::{find_entry, lowest_of, set_entry};
 use crate::log::{append_chunk, chunk_body};
@@ -241,5 +241,148 @@ impl<'a> Run<'a> {
         })?;
         self.done += 1;
         Ok(())
+    }
+
+    // Answers the next line.
+    fn answer_next<D: Disk>(&mut self, alloc: Global, disk: &mut D) -> Result<(), Fault>
+        requires ready { IsReady D.tells D.reads D.may_leave disk.old self.old }
+        requires open { IsOpen self.old }
+        requires room { HasRoom self.old }
+        requires next { self.old.done < length self.old.script.now }
+        requires commands { IsTrue (has_puts_and_gets self.old.script.now) }
+        ensures ready { OnOk result (IsReady D.tells D.reads D.may_leave disk.new self.new) }
+        ensures open { OnOk result (IsOpen self.new) }
+        ensures drawn { OnOk result (self.new.next ≤ self.old.next + 1) }
+        ensures done { OnOk result (self.new.done ≡ self.old.done + 1) }
+        ensures script { self.new.script ≡ self.old.script }
+        ensures acks { OnErr result (self.new.acks.items ≡ self.old.acks.items) }
+        ensures tells { Tells self.new.script.now self.new.events.items self.new.acks.items }
+        ensures extends { Extends (commits_so_far self.old) (commits_so_far self.new) }
+        ensures images { IsTrue (D.tells disk.old) → Within D.moment D.left_since disk.old disk.new
+            (λ c. KnownAcked (commits_so_far self.new) self.old.acks.items (get c 1)) }
+        ensures elsewhere { Within D.moment D.left_since disk.old disk.new (AgreesElsewhere 1 (D.may_leave disk.old)) }
+        ensures told { D.tells disk.new ≡ D.tells disk.old }
+        ensures time { Passes D.moment D.left_since disk.old disk.new }
+        ensures cause { HasCause (D.faults disk.old) (D.faults disk.new) result }
+    {
+        let script = self.script;
+        let line = &script[self.done];
+        match &line.command {
+            Command::Put { id, key, value } => self.put(alloc, disk, line.number, id, key, value),
+            Command::Get { id, key } => match self.get(alloc, line.number, id, key) {
+                Ok(()) => Ok(()),
+                Err(NoMemory) => Err(Fault::Memory),
+            },
+            _ => unreachable!(),
+        }
+    }
+
+    // Answers the lines of the script, of which none was answered yet.
+    fn answer_all<D: Disk>(&mut self, alloc: Global, disk: &mut D) -> Result<(), Fault>
+        requires ready { IsReady D.tells D.reads D.may_leave disk.old self.old }
+        requires start { self.old.done ≡ 0 }
+        requires open { (self.old.next ≡ 2) × (self.old.acks.items ≡ []) }
+        requires short { length self.old.script.now < 2 ^ 32 }
+        requires commands { IsTrue (has_puts_and_gets self.old.script.now) }
+        ensures ready { OnOk result (IsReady D.tells D.reads D.may_leave disk.new self.new) }
+        ensures room { OnOk result (HasRoom self.new) }
+        ensures done { OnOk result (self.new.done ≡ length self.new.script.now) }
+        ensures script { self.new.script ≡ self.old.script }
+        ensures tells { Tells self.new.script.now self.new.events.items self.new.acks.items }
+        ensures extends { Extends (commits_so_far self.old) (commits_so_far self.new) }
+        ensures images { IsTrue (D.tells disk.old) → Within D.moment D.left_since disk.old disk.new (λ c. Known (commits_so_far self.new) (get c 1)) }
+        ensures acked { IsTrue (D.tells disk.old) → (c : Image) → D.may_leave disk.new c → KnownAcked (commits_so_far self.new) self.new.acks.items (get c 1) }
+        ensures elsewhere { Within D.moment D.left_since disk.old disk.new (AgreesElsewhere 1 (D.may_leave disk.old)) }
+        ensures told { D.tells disk.new ≡ D.tells disk.old }
+        ensures time { Passes D.moment D.left_since disk.old disk.new }
+        ensures cause { HasCause (D.faults disk.old) (D.faults disk.new) result }
+    {
+        while self.done < self.script.len() {
+            self.answer_next(alloc, disk)?;
+        }
+        Ok(())
+    }
+
+    // Makes the segment, and writes the opening mark.
+    fn open<D: Disk>(&mut self, alloc: Global, disk: &mut D) -> Result<(), Fault>
+        requires fresh { IsFresh self.old }
+        requires absent { IsTrue (D.tells disk.old) → get (D.reads disk.old) 1 ≡ None }
+        requires not_removed { IsTrue (D.tells disk.old) → D.removing disk.old 1 → ⊥ }
+        ensures ready { OnOk result (IsReady D.tells D.reads D.may_leave disk.new self.new) }
+        ensures next { OnOk result (self.new.next ≡ 2) }
+        ensures kept { IsToldAlike self.old self.new }
+        ensures images { IsTrue (D.tells disk.old) → Within D.moment D.left_since disk.old disk.new (λ c. KnownAcked [] [] (get c 1)) }
+        ensures elsewhere { Within D.moment D.left_since disk.old disk.new (AgreesElsewhere 1 (D.may_leave disk.old)) }
+        ensures told { D.tells disk.new ≡ D.tells disk.old }
+        ensures time { Passes D.moment D.left_since disk.old disk.new }
+        ensures cause { HasCause (D.faults disk.old) (D.faults disk.new) result }
+    {
+        open_segment(disk, SEGMENT, 1)?;
+        self.mark(alloc, disk)
+    }
+
+    // Opens the store, answers the script and closes the store.
+    fn play<D: Disk>(&mut self, alloc: Global, disk: &mut D) -> Result<(), Fault>
+        requires fresh { IsFresh self.old }
+        requires absent { IsTrue (D.tells disk.old) → get (D.reads disk.old) 1 ≡ None }
+        requires not_removed { IsTrue (D.tells disk.old) → D.removing disk.old 1 → ⊥ }
+        requires short { length self.old.script.now < 2 ^ 32 }
+        requires commands { IsTrue (has_puts_and_gets self.old.script.now) }
+        ensures script { self.new.script ≡ self.old.script }
+        ensures tells { Tells self.new.script.now self.new.events.items self.new.acks.items }
+        ensures images { IsTrue (D.tells disk.old) → Within D.moment D.left_since disk.old disk.new (λ c. Known (commits_so_far self.new) (get c 1)) }
+        ensures acked { IsTrue (D.tells disk.old) → (c : Image) → D.may_leave disk.new c → KnownAcked (commits_so_far self.new) self.new.acks.items (get c 1) }
+        ensures complete { OnOk result (Completes self.new.script.now self.new.events.items self.new.acks.items) }
+        ensures all { OnOk result (IsTrue (D.tells disk.old) → (c : Image) → D.may_leave disk.new c → KnownAll (commits_so_far self.new) (get c 1)) }
+        ensures elsewhere { Within D.moment D.left_since disk.old disk.new (AgreesElsewhere 1 (D.may_leave disk.old)) }
+        ensures told { D.tells disk.new ≡ D.tells disk.old }
+        ensures time { Passes D.moment D.left_since disk.old disk.new }
+        ensures cause { HasCause (D.faults disk.old) (D.faults disk.new) result }
+    {
+        self.open(alloc, disk)?;
+        self.answer_all(alloc, disk)?;
+        self.mark(alloc, disk)
+    }
+}
+
+/// Runs a script of puts and gets by one client, on a store that is empty. At a fault of the disk, or where memory runs
+/// out, it stops, and what was answered and acknowledged until then is kept.
+pub(crate) fn run_script<D: Disk>(alloc: Global, disk: &mut D, script: &[Line]) -> Session
+    requires short { length script.now < 2 ^ 32 }
+    requires commands { IsTrue (has_puts_and_gets script.now) }
+    requires empty { IsTrue (D.tells disk.old) → D.reads disk.old ≡ empty }
+    requires not_removed { IsTrue (D.tells disk.old) → (n : ℕ) → D.removing disk.old n → ⊥ }
+
+    // The history is legal, and its puts but at most the last are acknowledged, in order.
+    ensures tells { Tells script.now result.events.items result.acks.items }
+
+    // A crash at any moment leaves the maps after some of the puts, and one now those after every acknowledged put.
+    ensures survives { IsTrue (D.tells disk.old) → ((c : Image) → D.may_leave disk.old c → c ≡ empty)
+        → Survives (commits_of_run script.now result.events.items) result.acks.items (D.left_since disk.new (D.moment disk.old)) (D.may_leave disk.new) }
+
+    // Where nothing stopped it the script is whole, and every put is acknowledged and durable.
+    ensures complete { result.stop ≡ None → Completes script.now result.events.items result.acks.items }
+    ensures all { result.stop ≡ None → IsTrue (D.tells disk.old) → ((c : Image) → D.may_leave disk.old c → c ≡ empty)
+        → (c : Image) → D.may_leave disk.new c → ShowsAll (commits_of_run script.now result.events.items) c }
+    ensures told { D.tells disk.new ≡ D.tells disk.old }
+    ensures time { Passes D.moment D.left_since disk.old disk.new }
+
+    // The disk stops it only by a fault.
+    ensures cause { StopHasCause (D.faults disk.old) (D.faults disk.new) result.stop }
+{
+    let mut run = Run {
+        script,
+        done: 0,
+        entries: Vec::new(alloc),
+        events: Vec::new(alloc),
+        acks: Vec::new(alloc),
+        gate_at: FIRST_GATE,
+        next: 1,
+    };
+    let stop = run.play(alloc, disk).err();
+    Session {
+        events: run.events,
+        acks: run.acks,
+        stop,
     }
 }
