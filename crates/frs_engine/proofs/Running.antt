@@ -1,9 +1,10 @@
 -- A run from one answer to the next, and from one record to the next.
 use Rattle.std.proofs.Common.{◌≡◌, ◌⊎◌, inl, inr, ⊎_elim, ℕ, zero, suc, ◌+◌, ◌*◌, ◌^◌, ◌<◌, ◌≤◌, Bool, true, List, [], ◌∷◌, ◌++◌, length, take, Option, Some, None, refl, sym, ◌∙◌, ap, subst, arith, IsTrue, append_assoc, length-append}
-use Rattle.std.specs.Prelude.{map, nat_le, ◌&&◌, is_some, slice_get, unwrap_or, option_map}
+use Rattle.std.specs.Prelude.{map, nat_le, ◌&&◌, is_some, is_none, slice_get, unwrap_or, option_map}
 use Rattle.std.specs.List.{list_all}
 use Rattle.std.proofs.lemmas.Bool.{and_from, le-leb}
-use Rattle.std.proofs.lemmas.List.{append-nil, map-append, take_at, take-append-le}
+use Rattle.std.proofs.lemmas.List.{append-nil, map-append, take_at, length-map}
+use Rattle.std.proofs.lemmas.Option.{slice_get_past}
 use Rattle.std.proofs.lemmas.List.Folds.{list_all-append}
 use Rattle.std.specs.FinMap.{get}
 use Rattle.std.specs.FinMap.Entries.{put, find}
@@ -26,10 +27,10 @@ use Rattle.frs_history.specs.Machine.{Changes, State, start, value_or_none}
 use Rattle.frs_engine.specs.declared.session.Run.{Run}
 use Rattle.frs_engine.specs.Entries.{table}
 use Rattle.frs_engine.specs.Log.{IsStage, IsAtGate, chunk_of}
-use Rattle.frs_engine.specs.Promise.{commits_of_run, owed_acks, puts, puts_by, Tells, ShowsPuts}
-use Rattle.frs_engine.specs.Session.{drawn, drawn_put, front, state_at, answer, IsLog, IsAnswered, IsReady, IsOpen, HasRoom, IsToldAlike, commits_so_far, Extends, as_files, Known, KnownAcked}
+use Rattle.frs_engine.specs.Promise.{commits_of_run, owed_acks, puts, puts_by, Tells, ShowsPuts, Completes, is_whole_in}
+use Rattle.frs_engine.specs.Session.{drawn, drawn_put, front, state_at, answer, IsLog, IsAnswered, IsReady, IsOpen, HasRoom, IsToldAlike, IsFresh, commits_so_far, Extends, as_files, Known, KnownAcked, KnownAll}
 use Rattle.frs_engine.proofs.Answering.{put_run, put_commits, put_owed, get_run, get_commits, get_owed, acks_within, length-acks_from}
-use Rattle.frs_engine.proofs.Logging.{front-next, puts-push, gate_after, log-put, log-mark, put_long, mark_long}
+use Rattle.frs_engine.proofs.Logging.{log_start, front-next, puts-push, gate_after, log-put, log-mark, put_long, mark_long}
 use Rattle.frs_engine.proofs.Showing.{stage_shows}
 use Rattle.frs_engine.proofs.Stages.{shut}
 use Rattle.frs_engine.proofs.Tables.{find-plain, plain-put}
@@ -245,3 +246,42 @@ alike_tells old new alike tells =
     subst (λ (l : List Ack). Tells new.script.now new.events.items l) (sym alike.acks)
     (subst (λ (es : List Event). Tells new.script.now es old.acks.items) (sym alike.events)
     (subst (λ (s : List Line). Tells s old.events.items old.acks.items) (ap (λ s. s.now) (sym alike.script)) tells))
+
+-- ---- the start and the end
+
+pub fresh_commits : (r : Run) → IsFresh r → commits_so_far r ≡ []
+fresh_commits r f = ap (commits_of_run r.script.now) f.events
+
+pub fresh_answered : (r : Run) → IsFresh r → IsAnswered [] r
+fresh_answered r f = record {
+  log = log_at [] [] (table r.entries.items) 1 r.next 22 r.gate_at (ap table (sym f.entries)) (sym f.next) (sym f.gate_at) log_start;
+  machine = ap (run (r.script.now ∷ []) (start [] 0 1)) f.events ∙ ap (λ es. Some (state_at (plain (table es)) 0)) (sym f.entries)
+      ∙ ap (λ (k : ℕ). Some (state_at (plain (table r.entries.items)) k)) (sym f.done);
+  commits = fresh_commits r f;
+  acks = f.acks ∙ sym (ap (owed_acks r.script.now) f.events);
+  within = ap (list_all (λ (x : Ack). nat_le x.lsn 0)) f.acks;
+  counted = ap length f.acks;
+  size = omega (arith, f.gate_at, f.next);
+  short = omega (arith, f.next);
+}
+
+pub fresh_tells : (r : Run) → IsFresh r → Tells r.script.now r.events.items r.acks.items
+fresh_tells r f = answered_tells [] r (fresh_answered r f)
+
+pub answered_completes : (rs : List Record) (r : Run) → IsAnswered rs r → r.done ≡ length r.script.now → Completes r.script.now r.events.items r.acks.items
+answered_completes rs r a done =
+    let past : slice_get r.script.now r.done ≡ None = slice_get_past r.script.now r.done (omega (arith, done)) in
+    record {
+      whole = ap (is_whole_in (r.script.now ∷ [])) a.machine ∙ ap (λ (o : Option Line). is_none o && true) past;
+      told = a.acks;
+    }
+
+module _ {D : Type 0} (tells : D → Bool) (reads : D → Image) (may_leave : D → Image → Type 0) (disk : D) (r : Run) (ready : IsReady tells reads may_leave disk r) (told : IsTrue (tells disk)) where
+  pub ready_all : (c : Image) → may_leave disk c → KnownAll (commits_so_far r) (get c 1)
+  ready_all c left =
+      let rs : List Record = ready.records in
+      let a = ready.answered in
+      let all : length (puts rs) ≡ length (commits_so_far r) = sym (ap length a.commits ∙ length-map (puts rs) (λ (x : Change (List ℕ)). x ∷ [])) in
+      (length rs, subst (ShowsPuts (as_files (get c 1)) (commits_so_far r) (length rs)) all
+      (stage_shows rs (table r.entries.items) r.next r.gate_at a.log a.short (get c 1) (commits_so_far r) [] (a.commits ∙ sym (append-nil (each_alone (puts rs))))
+      (ready_stage tells reads may_leave disk r ready told c left)))
