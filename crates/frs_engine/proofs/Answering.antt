@@ -1,6 +1,6 @@
 -- One more event of the one client: the machine's state after it, what it commits, and what it is owed.
-use Rattle.std.proofs.Common.{◌≡◌, ℕ, zero, suc, ◌+◌, ◌<◌, ◌≤◌, Bool, true, false, cond, List, [], ◌∷◌, ◌++◌, length, Option, Some, None, refl, sym, ◌∙◌, ap, subst, arith, IsTrue}
-use Rattle.std.specs.Prelude.{map, flat_map, filter, nat_le, nat_eq, slice_get, option_map, option_and_then, unwrap_or}
+use Rattle.std.proofs.Common.{◌≡◌, ℕ, suc, ◌+◌, ◌≤◌, true, false, cond, List, [], ◌∷◌, ◌++◌, length, Option, Some, None, refl, sym, ◌∙◌, ap, arith}
+use Rattle.std.specs.Prelude.{map, filter, nat_le, slice_get, option_map, option_and_then, unwrap_or}
 use Rattle.std.specs.List.{list_all}
 use Rattle.std.proofs.lemmas.Option.{same_Some}
 use Rattle.std.proofs.lemmas.Bool.{eq-eqb, and_parts, and_from, leb-true, le-leb}
@@ -17,8 +17,8 @@ use Rattle.frs_history.specs.declared.event.Ack.{Ack}
 use Rattle.frs_history.specs.declared.event.Event.{Event}
 use Rattle.frs_history.specs.declared.event.Reply.{Reply}
 use Rattle.frs_history.specs.declared.event.Reply.TheVariants as reply
-use Rattle.frs_history.specs.Histories.{Moment, run, next, moment, moments, commits, commits_of, commits_by, owed, is_owed, is_owed_by, same_reply, if_next, if_answers, each_alone}
-use Rattle.frs_history.specs.Machine.{Changes, Scripts, State, start, next_line, outcome, value_or_none}
+use Rattle.frs_history.specs.Histories.{Moment, run, next, moment, moments, commits, commits_of, commits_by, owed, is_owed, is_owed_by, same_reply, if_next, if_answers}
+use Rattle.frs_history.specs.Machine.{Changes, Scripts, State, start, outcome, value_or_none}
 use Rattle.frs_history.specs.Machine.Transaction.{Outside}
 use Rattle.frs_engine.specs.Promise.{commits_of_run, acks_from, owed_acks}
 use Rattle.frs_engine.specs.Session.{state_at, answer}

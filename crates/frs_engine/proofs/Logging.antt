@@ -1,20 +1,18 @@
 -- One more record of a log.
-use Rattle.std.proofs.Common.{◌≡◌, ℕ, zero, suc, ◌+◌, ◌*◌, ◌^◌, ◌<◌, ◌≤◌, Bool, true, false, cond, List, [], ◌∷◌, ◌++◌, length, refl, sym, ◌∙◌, ap, subst, arith, IsTrue, append_assoc, length-append}
-use Rattle.std.specs.Prelude.{map, flat_map, fold, nat_lt, nat_le, nat_eq, ◌&&◌}
-use Rattle.std.proofs.lemmas.Bool.{and_parts, and_from, eq-eqb, leb-true, le-leb, lt-ltb, ltb-true}
-use Rattle.std.proofs.lemmas.List.{append-nil, map-append}
+use Rattle.std.proofs.Common.{◌≡◌, ℕ, suc, ◌+◌, ◌^◌, ◌<◌, ◌≤◌, true, List, [], ◌∷◌, ◌++◌, length, refl, sym, ◌∙◌, ap, subst, arith, append_assoc, length-append}
+use Rattle.std.specs.Prelude.{nat_lt, nat_le, nat_eq, ◌&&◌}
+use Rattle.std.proofs.lemmas.Bool.{and_parts, and_from, eq-eqb, leb-true, le-leb, lt-ltb}
+use Rattle.std.proofs.lemmas.List.{append-nil}
 use Rattle.std.proofs.lemmas.Grind.{flat_map-append}
 use Rattle.std.proofs.lemmas.List.Sums.{fold-append}
 use Rattle.std.specs.FinMap.Entries.{put}
 use Rattle.std.specs.Int.{w8, w16, w32, w64, to_be_bytes}
-use Rattle.frs_types.specs.declared.record.Action.{Action}
 use Rattle.frs_types.specs.declared.record.Action.TheVariants as action
 use Rattle.frs_types.specs.declared.record.Record.{Record}
-use Rattle.frs_types.specs.Maps.{Place, Table, Change, place_cmp}
-use Rattle.frs_types.specs.Records.{has_words, is_id, is_key, is_value, allowed, allowed_from}
-use Rattle.frs_types.specs.Lawful.{Held, LogState, Lawful, settled, after_record, state_after, are_lawful, is_lawful, lowest, named_at}
+use Rattle.frs_types.specs.Maps.{Table, place_cmp}
+use Rattle.frs_types.specs.Records.{has_words, is_id, is_key, is_value, allowed}
+use Rattle.frs_types.specs.Lawful.{Held, LogState, settled, after_record, state_after, are_lawful, is_lawful, lowest, named_at}
 use Rattle.frs_frame.specs.Spelling.{spelling, numbers, payload, word_bytes}
-use Rattle.frs_history.specs.Histories.{each_alone}
 use Rattle.frs_history.specs.Machine.{Changes}
 use Rattle.frs_segment.specs.Segments.{body, chunk_bytes, chunks_bytes, is_chunk, are_chunks}
 use Rattle.frs_engine.specs.Log.{chunk_of}

@@ -1,6 +1,6 @@
 -- A run from one answer to the next, and from one record to the next.
-use Rattle.std.proofs.Common.{◌≡◌, ◌⊎◌, inl, inr, ⊎_elim, ℕ, zero, suc, ◌+◌, ◌*◌, ◌^◌, ◌<◌, ◌≤◌, Bool, true, List, [], ◌∷◌, ◌++◌, length, take, Option, Some, None, refl, sym, ◌∙◌, ap, subst, arith, IsTrue, append_assoc, length-append}
-use Rattle.std.specs.Prelude.{map, nat_le, ◌&&◌, is_some, is_none, slice_get, unwrap_or, option_map}
+use Rattle.std.proofs.Common.{◌≡◌, ◌⊎◌, ⊎_elim, ℕ, ◌+◌, ◌^◌, ◌<◌, Bool, true, List, [], ◌∷◌, ◌++◌, length, take, Option, Some, None, refl, sym, ◌∙◌, ap, subst, arith, IsTrue, append_assoc, length-append}
+use Rattle.std.specs.Prelude.{nat_le, ◌&&◌, is_some, is_none, slice_get, unwrap_or, option_map}
 use Rattle.std.specs.List.{list_all}
 use Rattle.std.proofs.lemmas.Bool.{and_from, le-leb}
 use Rattle.std.proofs.lemmas.List.{append-nil, map-append, take_at, length-map}
@@ -23,13 +23,13 @@ use Rattle.frs_history.specs.declared.event.Event.{Event}
 use Rattle.frs_history.specs.declared.event.Reply.{Reply}
 use Rattle.frs_history.specs.declared.event.Reply.TheVariants as reply
 use Rattle.frs_history.specs.Histories.{run, each_alone}
-use Rattle.frs_history.specs.Machine.{Changes, State, start, value_or_none}
+use Rattle.frs_history.specs.Machine.{Changes, start, value_or_none}
 use Rattle.frs_engine.specs.declared.session.Run.{Run}
 use Rattle.frs_engine.specs.Entries.{table}
 use Rattle.frs_engine.specs.Log.{IsStage, IsAtGate, chunk_of}
 use Rattle.frs_engine.specs.Promise.{commits_of_run, owed_acks, puts, puts_by, Tells, ShowsPuts, Completes, is_whole_in}
-use Rattle.frs_engine.specs.Session.{drawn, drawn_put, front, state_at, answer, IsLog, IsAnswered, IsReady, IsOpen, HasRoom, IsToldAlike, IsFresh, commits_so_far, Extends, as_files, Known, KnownAcked, KnownAll}
-use Rattle.frs_engine.proofs.Answering.{put_run, put_commits, put_owed, get_run, get_commits, get_owed, acks_within, length-acks_from}
+use Rattle.frs_engine.specs.Session.{drawn, drawn_put, front, state_at, answer, IsLog, IsAnswered, IsReady, IsOpen, IsToldAlike, IsFresh, commits_so_far, Extends, as_files, KnownAcked, KnownAll}
+use Rattle.frs_engine.proofs.Answering.{put_run, put_commits, put_owed, get_run, get_commits, get_owed, acks_within}
 use Rattle.frs_engine.proofs.Logging.{log_start, front-next, puts-push, gate_after, log-put, log-mark, put_long, mark_long}
 use Rattle.frs_engine.proofs.Showing.{stage_shows}
 use Rattle.frs_engine.proofs.Stages.{shut}
@@ -88,10 +88,13 @@ module _ (rs : List Record) (old : Run) (a : IsAnswered rs old) (r : Record) (bo
         (λ next.
         let stage : IsStage (front (rs ++ r ∷ [])) file = subst (IsStage (front (rs ++ r ∷ []))) (sym (next ∙ ap Some whole)) (shut (front (rs ++ r ∷ [])) 0 [] (omega arith)) in
         let shows : ShowsPuts (as_files file) commits (length (rs ++ r ∷ [])) (length (puts (rs ++ r ∷ []))) =
-        stage_shows (rs ++ r ∷ []) u (old.next + 1) gate_at log (omega arith) file commits [] (after ∙ sym (append-nil (each_alone (puts (rs ++ r ∷ []))))) stage in
-        (length (rs ++ r ∷ []), length (puts (rs ++ r ∷ [])),
-        acks_within (length rs) (length (rs ++ r ∷ [])) old.acks.items (omega (arith, length-append rs (r ∷ []))) a.within,
-        omega (arith, a.counted, ap length (puts-push rs r), length-append (puts rs) (puts_by r.action)), shows))
+        stage_shows (rs ++ r ∷ []) u (old.next + 1) gate_at log (omega arith) file commits [] (after ∙ sym (append-nil (each_alone (puts (rs ++ r ∷ []))))) stage in (
+          length (rs ++ r ∷ []),
+          length (puts (rs ++ r ∷ [])),
+          acks_within (length rs) (length (rs ++ r ∷ [])) old.acks.items (omega (arith, length-append rs (r ∷ []))) a.within,
+          omega (arith, a.counted, ap length (puts-push rs r), length-append (puts rs) (puts_by r.action)),
+          shows,
+        ))
         stage
 
 log_at : (rs : List Record) (t u : Table Held) (n m g h : ℕ) → t ≡ u → n ≡ m → g ≡ h → IsLog rs t n g → IsLog rs u m h
@@ -281,7 +284,9 @@ module _ {D : Type 0} (tells : D → Bool) (reads : D → Image) (may_leave : D 
   ready_all c left =
       let rs : List Record = ready.records in
       let a = ready.answered in
-      let all : length (puts rs) ≡ length (commits_so_far r) = sym (ap length a.commits ∙ length-map (puts rs) (λ (x : Change (List ℕ)). x ∷ [])) in
-      (length rs, subst (ShowsPuts (as_files (get c 1)) (commits_so_far r) (length rs)) all
-      (stage_shows rs (table r.entries.items) r.next r.gate_at a.log a.short (get c 1) (commits_so_far r) [] (a.commits ∙ sym (append-nil (each_alone (puts rs))))
-      (ready_stage tells reads may_leave disk r ready told c left)))
+      let all : length (puts rs) ≡ length (commits_so_far r) = sym (ap length a.commits ∙ length-map (puts rs) (λ (x : Change (List ℕ)). x ∷ [])) in (
+        length rs,
+        subst (ShowsPuts (as_files (get c 1)) (commits_so_far r) (length rs)) all
+            (stage_shows rs (table r.entries.items) r.next r.gate_at a.log a.short (get c 1) (commits_so_far r) [] (a.commits ∙ sym (append-nil (each_alone (puts rs))))
+            (ready_stage tells reads may_leave disk r ready told c left)),
+      )

@@ -1,13 +1,13 @@
 -- What segment 1 shows of the commits, and that an image holds nothing else.
-use Rattle.std.proofs.Common.{◌≡◌, ◌≢◌, ◌⊎◌, inl, inr, ⊎_elim, ℕ, zero, suc, ◌+◌, ◌^◌, ◌<◌, ◌≤◌, Bool, true, false, cond, not, List, [], ◌∷◌, ◌++◌, length, take, drop, Option, Some, None, refl, sym, ◌∙◌, ap, subst, arith, IsTrue, append_assoc, length-append, take-append-drop}
-use Rattle.std.specs.Prelude.{T, map, flat_map, fold, nat_lt, nat_le, nat_eq, ◌&&◌, slice_index}
+use Rattle.std.proofs.Common.{◌≡◌, ◌≢◌, inl, inr, ⊎_elim, ℕ, ◌+◌, ◌^◌, ◌≤◌, Bool, true, false, cond, not, List, [], ◌∷◌, ◌++◌, length, take, drop, Option, Some, None, refl, sym, ◌∙◌, ap, subst, arith, append_assoc, length-append, take-append-drop}
+use Rattle.std.specs.Prelude.{T, flat_map, fold, nat_le, nat_eq, slice_index}
 use Rattle.std.specs.List.{AllZip, list_all}
-use Rattle.std.proofs.lemmas.Bool.{and_from, and_left, and_right, ne_eqb, eq-eqb, le-leb, lt-leb, cases_eq}
+use Rattle.std.proofs.lemmas.Bool.{and_from, and_left, and_right, ne_eqb, le-leb, lt-leb, cases_eq}
 use Rattle.std.proofs.lemmas.List.{append-nil, length-map}
 use Rattle.std.proofs.lemmas.List.{take-append-le}
-use Rattle.std.specs.Ordering.{nat_cmp, eq_by_cmp}
+use Rattle.std.specs.Ordering.{nat_cmp}
 use Rattle.std.specs.Cmp.{nat_cmp_total, unsigned_tied}
-use Rattle.std.specs.FinMap.{FinMap, get, entries, entries_sorted, get-entries, nat_cmp-IsAntisymmetric}
+use Rattle.std.specs.FinMap.{get, entries, entries_sorted, get-entries, nat_cmp-IsAntisymmetric}
 use Rattle.std.specs.FinMap.Entries.{find, is_sorted, same_entries}
 use Rattle.frs_types.specs.declared.record.Record.{Record}
 use Rattle.frs_types.specs.Maps.{Maps, Table, Change, After, changed, changed_by}
@@ -16,8 +16,8 @@ use Rattle.frs_disk.specs.Disk.{Image}
 use Rattle.frs_history.specs.declared.event.Ack.{Ack}
 use Rattle.frs_history.specs.Histories.{each_alone}
 use Rattle.frs_history.specs.Machine.{Changes}
-use Rattle.frs_segment.specs.Front.{IsHalfMade, IsInTheMaking, empty_segment, header}
-use Rattle.frs_segment.specs.Segments.{File, Segment, IsSegment, records_of, all_records, open_files, is_open, chunks_bytes}
+use Rattle.frs_segment.specs.Front.{IsHalfMade, IsInTheMaking, header}
+use Rattle.frs_segment.specs.Segments.{File, IsSegment, records_of, all_records, open_files, is_open, chunks_bytes}
 use Rattle.frs_engine.specs.Log.{IsStage}
 use Rattle.frs_engine.specs.Promise.{puts, ShowsPuts}
 use Rattle.frs_engine.specs.Session.{singles, segment_of, front, IsLog, Extends, as_files, Known, KnownAcked}

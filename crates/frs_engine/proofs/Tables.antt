@@ -1,9 +1,8 @@
 -- Tables of entries, with their LSNs and without, and the least LSN.
-use Rattle.std.proofs.Common.{◌≡◌, ℕ, zero, suc, ◌+◌, ◌<◌, ◌≤◌, Bool, true, false, cond, List, [], ◌∷◌, ◌++◌, Option, Some, None, refl, sym, ◌∙◌, ap, subst, arith, IsTrue, min}
-use Rattle.std.specs.Prelude.{map, fold, nat_lt, nat_le, ◌&&◌, option_map, unwrap_or}
+use Rattle.std.proofs.Common.{◌≡◌, ℕ, ◌+◌, ◌<◌, ◌≤◌, Bool, true, false, cond, List, [], ◌∷◌, ◌++◌, Some, refl, ap, arith, min}
+use Rattle.std.specs.Prelude.{map, fold, nat_lt, ◌&&◌, option_map, unwrap_or}
 use Rattle.std.specs.List.{list_all}
 use Rattle.std.proofs.lemmas.Bool.{and_parts, and_from, ltb-true, lt-ltb}
-use Rattle.std.specs.declared.cmp.Ordering.{Ordering}
 use Rattle.std.specs.declared.cmp.Ordering.TheVariants.{Less, Equal, Greater}
 use Rattle.std.specs.Ordering.{eq_by_cmp}
 use Rattle.std.specs.FinMap.Entries.{put, find, by_order}
@@ -24,7 +23,7 @@ pub plain-put : (p : Place) (h : Held) (t : Table Held) → plain (put place_cmp
 plain-put p h [] = refl
 plain-put p h (e ∷ t) =
     elim (place_cmp p e.0) as (λ o. plain (by_order o ((p, h) ∷ e ∷ t) ((e.0, h) ∷ t) (e ∷ put place_cmp p h t))
-        ≡ by_order o ((p, h.value) ∷ plain (e ∷ t)) ((e.0, h.value) ∷ plain t) ((e.0, e.1.value) ∷ put place_cmp p h.value (plain t))) [
+    ≡ by_order o ((p, h.value) ∷ plain (e ∷ t)) ((e.0, h.value) ∷ plain t) ((e.0, e.1.value) ∷ put place_cmp p h.value (plain t))) [
       | Less ↦ refl
       | Equal ↦ refl
       | Greater ↦ ap (λ (m : Maps). (e.0, e.1.value) ∷ m) (plain-put p h t)

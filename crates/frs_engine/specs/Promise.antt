@@ -1,6 +1,6 @@
 -- The promise of a run of one script of puts and gets on an empty store.
-use Rattle.std.specs.Prelude.{◌≡◌, ℕ, ◌+◌, ◌≤◌, Bool, true, false, not, ◌&&◌, ◌==◌, nat_le, List, [], ◌∷◌, ◌++◌, map, flat_map, length, Option, Some, None, IsTrue, is_none}
-use Rattle.std.specs.List.{AllZip, list_all, range_with_len}
+use Rattle.std.specs.Prelude.{◌≡◌, ℕ, ◌+◌, ◌≤◌, Bool, true, false, not, ◌&&◌, ◌==◌, nat_le, List, [], ◌∷◌, ◌++◌, flat_map, length, Option, Some, None, IsTrue, is_none}
+use Rattle.std.specs.List.{AllZip, list_all}
 use Rattle.std.specs.FinMap.{entries}
 use Rattle.frs_types.specs.declared.record.Action.{Action}
 use Rattle.frs_types.specs.declared.record.Action.TheVariants as action
@@ -13,7 +13,7 @@ use Rattle.frs_history.specs.declared.command.Command.TheVariants as command
 use Rattle.frs_history.specs.declared.command.Line.{Line}
 use Rattle.frs_history.specs.declared.event.Ack.{Ack}
 use Rattle.frs_history.specs.declared.event.Event.{Event}
-use Rattle.frs_history.specs.Histories.{Moment, moments, commits_from, owed, Legal, is_active, run}
+use Rattle.frs_history.specs.Histories.{moments, commits_from, owed, Legal, is_active, run}
 use Rattle.frs_history.specs.Machine.{Scripts, State, Changes, start, client, next_line}
 use Rattle.frs_disk.specs.Disk.{Image}
 use Rattle.frs_segment.specs.Segments.{File, Segment, IsSegment, open_files, all_records, follow_from}

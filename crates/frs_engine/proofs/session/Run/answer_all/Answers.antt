@@ -1,10 +1,8 @@
-use Rattle.std.proofs.Common.{◌≡◌, ◌∙◌, ◌+◌, ◌≤◌, ℕ, List, ap, sym, subst, length, arith, refl, IsTrue}
+use Rattle.std.proofs.Common.{◌≡◌, ◌∙◌, List, ap, sym, subst, length, arith, refl, IsTrue}
 use Rattle.std.specs.FinMap.{get}
-use Rattle.frs_disk.specs.Disk.{Image, Within}
 use Rattle.frs_disk.proofs.Moments.{agrees_start, agrees_join, passes_join}
-use Rattle.frs_history.specs.declared.command.Line.{Line}
 use Rattle.frs_history.specs.declared.event.Ack.{Ack}
-use Rattle.frs_engine.specs.Session.{commits_so_far, Known, KnownAcked}
+use Rattle.frs_engine.specs.Session.{commits_so_far, KnownAcked}
 use Rattle.frs_engine.proofs.Joining.{extends_none, extends_join, passes_none, known_join}
 use Rattle.frs_engine.proofs.Running.{ready_now}
 use Rattle.frs_engine.proofs.Showing.{known_acked}

@@ -1,6 +1,6 @@
-use Rattle.std.proofs.Common.{◌≡◌, ◌+◌, ◌-◌, ◌≤◌, ℕ, length, IsTrue}
+use Rattle.std.proofs.Common.{◌≡◌, ◌+◌, ◌-◌, ◌≤◌, length, IsTrue}
 use Rattle.std.specs.FinMap.{get}
-use Rattle.frs_disk.specs.Disk.{Image, AgreesElsewhere, Passes, Within}
+use Rattle.frs_disk.specs.Disk.{AgreesElsewhere, Passes, Within}
 use Rattle.frs_engine.specs.Session.{IsReady, IsOpen, commits_so_far, Extends, Known}
 use Rattle.frs_engine.proofs.session.Run.answer_all.Given as goal
 

@@ -1,4 +1,4 @@
-use Rattle.std.proofs.Common.{◌≡◌, List, ap, subst}
+use Rattle.std.proofs.Common.{List, ap, subst}
 use Rattle.std.specs.FinMap.{get}
 use Rattle.frs_disk.proofs.Moments.{agrees_start}
 use Rattle.frs_history.specs.declared.event.Ack.{Ack}

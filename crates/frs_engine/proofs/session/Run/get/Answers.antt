@@ -1,4 +1,4 @@
-use Rattle.std.proofs.Common.{◌∙◌, ap, sym, rules, arith, refl}
+use Rattle.std.proofs.Common.{refl}
 use Rattle.frs_engine.proofs.Running.{get_answered}
 use Rattle.frs_engine.proofs.session.Run.get.Goals as goal
 

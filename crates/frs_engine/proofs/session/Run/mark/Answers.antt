@@ -1,8 +1,8 @@
-use Rattle.std.proofs.Common.{◌≡◌, ◌⊎◌, ◌∙◌, ◌+◌, ◌++◌, [], ◌∷◌, ℕ, List, Option, Some, ap, sym, subst, take, length, arith, refl, IsTrue}
+use Rattle.std.proofs.Common.{◌≡◌, ◌⊎◌, ◌∙◌, ◌+◌, ◌++◌, [], ◌∷◌, ℕ, List, Some, ap, sym, subst, take, length, IsTrue}
 use Rattle.std.specs.FinMap.{get}
 use Rattle.frs_types.specs.declared.record.Action.TheVariants as action
 use Rattle.frs_types.specs.declared.record.Record.{Record}
-use Rattle.frs_disk.specs.Disk.{Image, bytes_at}
+use Rattle.frs_disk.specs.Disk.{bytes_at}
 use Rattle.frs_disk.proofs.Moments.{agrees_start}
 use Rattle.frs_frame.specs.Spelling.{spelling}
 use Rattle.frs_engine.specs.Entries.{table}

@@ -1,4 +1,4 @@
-use Rattle.std.proofs.Common.{◌≡◌, ◌∙◌, ℕ, List, [], ap, sym, subst, arith, refl, IsTrue}
+use Rattle.std.proofs.Common.{◌≡◌, ◌∙◌, List, [], sym, subst, arith, refl, IsTrue}
 use Rattle.std.specs.FinMap.{get}
 use Rattle.frs_disk.specs.Disk.{Image, Within}
 use Rattle.frs_disk.proofs.Moments.{agrees_join, within_join}

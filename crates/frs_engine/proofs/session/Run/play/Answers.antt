@@ -1,7 +1,7 @@
-use Rattle.std.proofs.Common.{◌≡◌, ◌∙◌, ℕ, List, [], ap, sym, subst, length, IsTrue}
+use Rattle.std.proofs.Common.{◌≡◌, ◌∙◌, List, [], ap, sym, subst, length, IsTrue}
 use Rattle.std.proofs.lemmas.Result.{on_ok_weaker}
 use Rattle.std.specs.FinMap.{get}
-use Rattle.frs_disk.specs.Disk.{Image, Passes, Within, AgreesElsewhere}
+use Rattle.frs_disk.specs.Disk.{Passes, Within, AgreesElsewhere}
 use Rattle.frs_disk.proofs.Moments.{agrees_join, passes_join}
 use Rattle.frs_history.specs.declared.event.Ack.{Ack}
 use Rattle.frs_history.specs.Machine.{Changes}

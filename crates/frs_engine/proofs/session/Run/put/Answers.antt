@@ -1,10 +1,7 @@
-use Rattle.std.proofs.Common.{◌≡◌, ◌⊎◌, ◌∙◌, ◌+◌, ◌++◌, [], ◌∷◌, ℕ, List, Option, Some, ap, sym, subst, take, length, arith, refl, IsTrue}
+use Rattle.std.proofs.Common.{◌≡◌, ◌⊎◌, ◌∙◌, ◌+◌, ◌++◌, [], ◌∷◌, ℕ, List, Some, ap, sym, subst, take, length, IsTrue}
 use Rattle.std.specs.FinMap.{get}
-use Rattle.std.specs.FinMap.Entries.{put}
 use Rattle.frs_types.specs.declared.record.Record.{Record}
-use Rattle.frs_types.specs.Maps.{place_cmp}
-use Rattle.frs_types.specs.Maps.Change.{Set}
-use Rattle.frs_disk.specs.Disk.{Image, bytes_at}
+use Rattle.frs_disk.specs.Disk.{bytes_at}
 use Rattle.frs_disk.proofs.Moments.{agrees_start}
 use Rattle.frs_frame.specs.Spelling.{spelling}
 use Rattle.frs_history.specs.declared.event.Ack.{Ack}
@@ -12,7 +9,7 @@ use Rattle.frs_history.specs.Machine.{Changes}
 use Rattle.frs_engine.specs.Entries.{table}
 use Rattle.frs_engine.specs.Log.{IsStage, IsAtGate}
 use Rattle.frs_engine.specs.Promise.{commits_of_run}
-use Rattle.frs_engine.specs.Session.{drawn_put, front, commits_so_far, IsReady, KnownAcked}
+use Rattle.frs_engine.specs.Session.{drawn_put, front, commits_so_far, KnownAcked}
 use Rattle.frs_engine.proofs.Running.{ready_before, ready_gate, ready_now, body_long, whole, acked_next, answered_tells, put_extends, put_before, put_after, put_log, put_tells, put_answered}
 use Rattle.frs_engine.proofs.session.Run.put.Goals as goal
 
