@@ -34,6 +34,7 @@ const EMPTY_RUN: [u8; 107] = [
 ];
 
 // What a run left.
+#[derive(Drop)]
 struct Left {
     status: u8,
     disk: MemDisk,

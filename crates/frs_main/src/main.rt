@@ -6,6 +6,9 @@ mod files;
 mod folder;
 mod out;
 
+#[cfg(test)]
+mod tests;
+
 use files::FolderFiles;
 use folder::FolderDisk;
 use frs_disk::{MemShelf, Name, Sink};
