@@ -43,7 +43,6 @@ impl Files for MemFiles {
     fn read(&mut self, alloc: Global, name: &Name) -> Result<Vec<u8>, Fault>
         ensures bytes { IfOk result (λ bytes. IsTrue (⟦<MemFiles as Files>⟧.tells self.old) → ⟦<MemFiles as Files>⟧.file self.old name.now ≡ Some bytes.items) }
         ensures short { IfOk result (λ bytes. length bytes.items < 2 ^ 32) }
-        ensures told { ⟦<MemFiles as Files>⟧.tells self.new ≡ ⟦<MemFiles as Files>⟧.tells self.old }
         ensures kept { (n : List ℕ) → ⟦<MemFiles as Files>⟧.file self.new n ≡ ⟦<MemFiles as Files>⟧.file self.old n }
         ensures cause { HasCause (⟦<MemFiles as Files>⟧.faults self.old) (⟦<MemFiles as Files>⟧.faults self.new) result }
         ensures planned { FailsExactly (next_fails (files_tally self.old) || is_none (⟦<MemFiles as Files>⟧.file self.old name.now)) result }

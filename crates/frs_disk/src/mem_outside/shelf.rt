@@ -49,7 +49,6 @@ impl Shelf for MemShelf {
 
     fn greatest(&mut self) -> Result<u64, Fault>
         ensures greatest { IfOk result (λ n. IsTrue (⟦<MemShelf as Shelf>⟧.tells self.old) → n ≡ greatest_snapshot (⟦<MemShelf as Shelf>⟧.holds self.old)) }
-        ensures told { ⟦<MemShelf as Shelf>⟧.tells self.new ≡ ⟦<MemShelf as Shelf>⟧.tells self.old }
         ensures kept { ⟦<MemShelf as Shelf>⟧.holds self.new ≡ ⟦<MemShelf as Shelf>⟧.holds self.old }
         ensures cause { HasCause (⟦<MemShelf as Shelf>⟧.faults self.old) (⟦<MemShelf as Shelf>⟧.faults self.new) result }
         ensures planned { FailsExactly (next_fails (shelf_tally self.old)) result }
@@ -66,7 +65,6 @@ impl Shelf for MemShelf {
         ensures set { OnOk result (IsTrue (⟦<MemShelf as Shelf>⟧.tells self.old)
             → ⟦<MemShelf as Shelf>⟧.holds self.new ≡ insert (⟦<MemShelf as Shelf>⟧.holds self.old) (snapshot, segment) bytes.now) }
         ensures others { (q : ℕ × ℕ) → q ≢ (snapshot, segment) → get (⟦<MemShelf as Shelf>⟧.holds self.new) q ≡ get (⟦<MemShelf as Shelf>⟧.holds self.old) q }
-        ensures told { ⟦<MemShelf as Shelf>⟧.tells self.new ≡ ⟦<MemShelf as Shelf>⟧.tells self.old }
         ensures cause { HasCause (⟦<MemShelf as Shelf>⟧.faults self.old) (⟦<MemShelf as Shelf>⟧.faults self.new) result }
         ensures refused { OnErr result (⟦<MemShelf as Shelf>⟧.holds self.new ≡ ⟦<MemShelf as Shelf>⟧.holds self.old) }
         ensures planned { FailsExactly (next_fails (shelf_tally self.old)) result }

@@ -44,7 +44,6 @@ impl Sink for MemSink {
         ensures whole { OnOk result (IsTrue (⟦<MemSink as Sink>⟧.tells self.old)
             → ⟦<MemSink as Sink>⟧.written self.new ≡ ⟦<MemSink as Sink>⟧.written self.old ++ bytes.now) }
         ensures part { IsTrue (⟦<MemSink as Sink>⟧.tells self.old) → AddsPartOf bytes.now (⟦<MemSink as Sink>⟧.written self.old) (⟦<MemSink as Sink>⟧.written self.new) }
-        ensures told { ⟦<MemSink as Sink>⟧.tells self.new ≡ ⟦<MemSink as Sink>⟧.tells self.old }
         ensures cause { HasCause (⟦<MemSink as Sink>⟧.faults self.old) (⟦<MemSink as Sink>⟧.faults self.new) result }
         ensures refused { OnErr result (⟦<MemSink as Sink>⟧.written self.new ≡ ⟦<MemSink as Sink>⟧.written self.old) }
         ensures planned { FailsExactly (next_fails (sink_tally self.old)) result }
