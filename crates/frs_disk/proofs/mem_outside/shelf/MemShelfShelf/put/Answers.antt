@@ -12,7 +12,7 @@ invariant_of-self-2 c = record {
 }
 
 pub returns-clause-set : goal.returns-clause-set
-returns-clause-set c told =
+returns-clause-set c =
     let copied : c.in_ok-copy.copy.items ≡ c.args.bytes.now = search rules in
     put_map (shelved c.args.self.now.held.items) (shelved c.put_segment.new.held.items) (c.args.snapshot, c.args.segment) c.in_ok-copy.copy.items c.args.self.now.rising c.in_ok-put_segment.ensures.ok
     ∙ ap (λ (b : List ℕ). insert (held_on c.args.self.now) (c.args.snapshot, c.args.segment) b) copied
