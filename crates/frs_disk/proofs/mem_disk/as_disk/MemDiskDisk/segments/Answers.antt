@@ -1,4 +1,4 @@
-use Rattle.std.proofs.Common.{◌≡◌, T, rules, ◌∙◌, ap, sym, subst, ℕ, List, Vec, map}
+use Rattle.std.proofs.Common.{◌≡◌, T, rules, ◌∙◌, sym, subst, ℕ, List, Vec, map}
 use Rattle.std.specs.Prelude.{All}
 use Rattle.std.specs.List.Sorted.{IsStrictlyIncreasing}
 use Rattle.std.specs.declared.alloc.Global.{Global}

@@ -1,6 +1,6 @@
-use Rattle.std.proofs.Common.{◌≡◌, ◌∙◌, ℕ, List, ap, sym, rules}
-use Rattle.std.specs.FinMap.{get, insert, put}
-use Rattle.frs_disk.specs.Outside.{ShelfFiles, shelf_cmp}
+use Rattle.std.proofs.Common.{◌≡◌, ◌∙◌, ℕ, List, ap, rules}
+use Rattle.std.specs.FinMap.{get, insert}
+use Rattle.frs_disk.specs.Outside.{ShelfFiles}
 use Rattle.frs_disk.specs.Shelved.{shelved}
 use Rattle.frs_disk.specs.MemOutside.{held_on}
 use Rattle.frs_disk.proofs.ShelfLemmas.{put_rising, put_map, get-insert_elsewhere}
