@@ -1,14 +1,14 @@
 -- A segment in its place on a shelf.
-use Rattle.std.proofs.Common.{◌≡◌, ◌≢◌, ℕ, zero, suc, ◌+◌, ◌<◌, ◌≤◌, Bool, true, false, cond, T, List, [], ◌∷◌, length, get_or, set, map, Vec, Option, Some, None, refl, sym, ◌∙◌, ap, subst, arith, inl, inr}
+use Rattle.std.proofs.Common.{◌≡◌, ◌≢◌, ℕ, zero, suc, ◌<◌, Bool, false, cond, T, List, [], ◌∷◌, length, get_or, set, map, Vec, Some, refl, sym, ◌∙◌, ap, subst, arith}
 use Rattle.std.proofs.lemmas.Cmp.{on_total, then_total}
 use Rattle.std.proofs.lemmas.Map.Lookups.{CmpEqualImpliesEq, exact_pairs, exact_unsigned}
 use Rattle.std.specs.List.{insert as insert_at}
 use Rattle.std.specs.declared.alloc.Global.{Global}
 use Rattle.std.specs.declared.cmp.Ordering.{Ordering}
 use Rattle.std.specs.declared.cmp.Ordering.TheVariants.{Less, Equal, Greater}
-use Rattle.std.specs.Ordering.{nat_cmp, eq_by_cmp, is_eq}
+use Rattle.std.specs.Ordering.{nat_cmp, is_eq}
 use Rattle.std.specs.Cmp.{IsTotalOrder, nat_cmp_total}
-use Rattle.std.specs.FinMap.{entries, keys, get, insert, put, is_sorted, from_sorted, entries-insert, entries-from_sorted, entries_sorted, same_entries_map, get-insert, empty, get-from_sorted, get-empty, same_map}
+use Rattle.std.specs.FinMap.{entries, get, insert, put, is_sorted, from_sorted, entries-insert, entries-from_sorted, entries_sorted, same_entries_map, get-insert, empty, get-from_sorted, get-empty, same_map}
 use Rattle.frs_disk.specs.Outside.{shelf_cmp, ShelfFiles, greatest_of, greatest_snapshot}
 use Rattle.frs_disk.specs.Shelved.{shelved}
 

@@ -1,5 +1,5 @@
 -- Which calls of a form in memory fail.
-use Rattle.std.specs.Prelude.{◌≡◌, ℕ, ◌+◌, ◌-◌, ◌^◌, min, Bool, true, false, ◌==◌, List, Result, Ok, Err, ⊤}
+use Rattle.std.specs.Prelude.{◌≡◌, ℕ, ◌+◌, ◌-◌, ◌^◌, min, Bool, true, false, ◌==◌, List, Result, Ok, Err, ⊤, codes}
 use Rattle.std.specs.List.{list_any}
 use Rattle.frs_disk.specs.declared.disk.Fault.{Fault}
 use Rattle.frs_disk.specs.declared.disk.Fault.TheVariants.{Failed, Memory}
@@ -23,3 +23,8 @@ abbrev pub faults_after : {V : Type 0} → Result V Fault → ℕ → ℕ
 faults_after (Ok value) n = n
 faults_after (Err Failed) n = risen n
 faults_after (Err Memory) n = n
+
+-- what is printed of a fault
+abbrev pub fault_text : Fault → List ℕ
+fault_text Failed = codes "the call has failed"
+fault_text Memory = codes "out of memory"

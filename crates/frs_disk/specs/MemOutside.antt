@@ -1,11 +1,11 @@
 -- What the outside in memory shows of itself.
-use Rattle.std.specs.Prelude.{◌≡◌, ℕ, Bool, List, [], ◌∷◌, Vec, Option, Some, None, Result, Ok, Err}
+use Rattle.std.specs.Prelude.{ℕ, Bool, List, Vec, Option, Result, Ok, Err}
 use Rattle.std.specs.List.{find}
 use Rattle.std.specs.Option.{option_map}
 use Rattle.std.specs.Str.{bytes_eq}
 use Rattle.std.specs.FinMap.{from_sorted}
 use Rattle.std.specs.declared.alloc.Global.{Global}
-use Rattle.frs_disk.specs.Faults.{names, risen, FailsExactly, faults_after}
+use Rattle.frs_disk.specs.Faults.{names, risen, faults_after}
 use Rattle.frs_disk.specs.Outside.{shelf_cmp, ShelfFiles}
 use Rattle.frs_disk.specs.Shelved.{shelved}
 use Rattle.frs_disk.specs.declared.disk.Fault.{Fault}

@@ -3,7 +3,7 @@ use Rattle.std.specs.Prelude.{◌≡◌, ◌↔◌, ℕ, ◌+◌, Bool, false, �
 use Rattle.frs_disk.specs.Disk.{Image}
 use Rattle.frs_disk.specs.Files.{image_of}
 use Rattle.frs_disk.specs.Faults.{names, FailsExactly, faults_after}
-use Rattle.frs_disk.specs.Calls.{MayLeave, HasRemoved, Notes}
+use Rattle.frs_disk.specs.Calls.{MayLeave, LeftSince, HasRemoved, Notes}
 use Rattle.frs_disk.specs.declared.disk.Fault.{Fault}
 use Rattle.frs_disk.specs.declared.calls.Call.{Call}
 use Rattle.frs_disk.specs.declared.calls.Made.{Made}
@@ -28,6 +28,20 @@ plan_of disk = disk.plan
 abbrev pub faults_of : MemDisk → ℕ
 faults_of disk = disk.faults
 
+-- what a crash at this moment may leave, and what one since a moment might have
+abbrev pub left_by : MemDisk → Image → Type 0
+left_by disk = MayLeave (start_of disk) (record_of disk)
+
+abbrev pub left_since_by : MemDisk → ℕ → Image → Type 0
+left_since_by disk = LeftSince (start_of disk) (record_of disk)
+
+abbrev pub moment_of : MemDisk → ℕ
+moment_of disk = length (record_of disk)
+
+-- the numbers whose file was removed
+abbrev pub removed_on : MemDisk → ℕ → Type 0
+removed_on disk = HasRemoved (record_of disk)
+
 -- the stop comes before the call with this number
 abbrev pub is_stopped : Option ℕ → ℕ → Bool
 is_stopped None n = false
@@ -40,8 +54,8 @@ fails_at plan n = names plan.failing.items n || is_stopped plan.stop_after n
 -- no file is another, a crash may leave the same as before, and the same removals are pending
 pub record IsUntouched (old new : MemDisk) : Type 0 where
   pub files : files_of new ≡ files_of old
-  pub leaves : (c : Image) → MayLeave (start_of new) (record_of new) c ↔ MayLeave (start_of old) (record_of old) c
-  pub removing : (n : ℕ) → HasRemoved (record_of new) n ↔ HasRemoved (record_of old) n
+  pub leaves : (c : Image) → left_by new c ↔ left_by old c
+  pub removing : (n : ℕ) → removed_on new n ↔ removed_on old n
 
 -- What one call does beside its answer: it stands in the record, it has failed exactly where the plan says so,
 -- and where it is refused it has changed nothing.

@@ -1,13 +1,13 @@
 // A disk in memory as a disk.
-ghost use Rattle.std.specs.Prelude.{◌≡◌, ◌⊎◌, ◌≤◌, ℕ, [], true, Some, None, length, take, drop, IsTrue, IsSome, IfOk, OnOk, All};
+ghost use Rattle.std.specs.Prelude.{◌≡◌, ◌⊎◌, ◌≤◌, ℕ, [], true, Some, None, length, take, drop, IsSome, IfOk, OnOk, All};
 ghost use Rattle.std.proofs.Common.{sym, ◌∙◌, subst, ap};
 ghost use Rattle.std.specs.FinMap.{get, keys, same_entries_map};
 ghost use Rattle.std.specs.List.Sorted.{IsStrictlyIncreasing};
 ghost use Rattle.frs_disk.specs.Disk.{Image, bytes_at, overwritten, IsNumber, Changes, OnFile, Torn, Created, Removed, Follows, Keeps, IsSynced, Elapses, HasCause};
-ghost use Rattle.frs_disk.specs.Calls.{replayed, MayLeave, LeftSince, HasRemoved};
+ghost use Rattle.frs_disk.specs.Calls.{replayed, MayLeave};
 ghost use Rattle.frs_disk.specs.Choices.{held_numbered};
 ghost use Rattle.frs_disk.specs.CallLaws.{now_counts, now_only, earlier_since, read_leaves, absent_stays};
-ghost use Rattle.frs_disk.specs.Plans.{start_of, files_of, record_of, faults_of, Plays};
+ghost use Rattle.frs_disk.specs.Plans.{start_of, files_of, record_of, faults_of, left_by, left_since_by, moment_of, removed_on, Plays};
 
 use super::MemDisk;
 use crate::calls::{Bytes, Call};
@@ -20,13 +20,13 @@ impl Disk for MemDisk {
 
     ghost reads = { files_of };
 
-    ghost may_leave = { λ m. MayLeave (start_of m) (record_of m) };
+    ghost may_leave = { left_by };
 
-    ghost moment = { λ m. length (record_of m) };
+    ghost moment = { moment_of };
 
-    ghost left_since = { λ m. LeftSince (start_of m) (record_of m) };
+    ghost left_since = { left_since_by };
 
-    ghost removing = { λ m. HasRemoved (record_of m) };
+    ghost removing = { removed_on };
 
     ghost faults = { faults_of };
 
@@ -47,15 +47,14 @@ impl Disk for MemDisk {
     }
 
     fn segments(&mut self, alloc: Global) -> Result<Vec<u64>, Fault>
-        ensures numbers { IfOk result (λ numbers. IsTrue (⟦<MemDisk as Disk>⟧.tells self.old) → numbers.items ≡ keys (⟦<MemDisk as Disk>⟧.reads self.old)) }
+        ensures numbers { IfOk result (λ numbers. numbers.items ≡ keys (files_of self.old)) }
         ensures rising { IfOk result (λ numbers. IsStrictlyIncreasing numbers.items) }
         ensures in_range { IfOk result (λ numbers. All IsNumber numbers.items) }
-        ensures told { ⟦<MemDisk as Disk>⟧.tells self.new ≡ ⟦<MemDisk as Disk>⟧.tells self.old }
-        ensures seen { ⟦<MemDisk as Disk>⟧.reads self.new ≡ ⟦<MemDisk as Disk>⟧.reads self.old }
-        ensures pending { (n : ℕ) → ⟦<MemDisk as Disk>⟧.removing self.new n → ⟦<MemDisk as Disk>⟧.removing self.old n }
-        ensures crash { Keeps (⟦<MemDisk as Disk>⟧.may_leave self.old) (⟦<MemDisk as Disk>⟧.may_leave self.new) }
-        ensures time { Elapses ⟦<MemDisk as Disk>⟧.moment ⟦<MemDisk as Disk>⟧.left_since ⟦<MemDisk as Disk>⟧.may_leave self.old self.new }
-        ensures cause { HasCause (⟦<MemDisk as Disk>⟧.faults self.old) (⟦<MemDisk as Disk>⟧.faults self.new) result }
+        ensures seen { files_of self.new ≡ files_of self.old }
+        ensures pending { (n : ℕ) → removed_on self.new n → removed_on self.old n }
+        ensures crash { Keeps (left_by self.old) (left_by self.new) }
+        ensures time { Elapses moment_of left_since_by left_by self.old self.new }
+        ensures cause { HasCause (faults_of self.old) (faults_of self.new) result }
         ensures plays { Plays Call.Segments self.old self.new result }
     {
         let numbers = numbers_of(alloc, &self.files)?;
@@ -65,15 +64,14 @@ impl Disk for MemDisk {
 
     fn create(&mut self, number: u64) -> Result<(), Fault>
         requires in_range { IsNumber number }
-        requires absent { IsTrue (⟦<MemDisk as Disk>⟧.tells self.old) → get (⟦<MemDisk as Disk>⟧.reads self.old) number ≡ None }
-        requires not_removed { IsTrue (⟦<MemDisk as Disk>⟧.tells self.old) → ⟦<MemDisk as Disk>⟧.removing self.old number → ⊥ }
-        ensures created { OnOk result (IsTrue (⟦<MemDisk as Disk>⟧.tells self.old) → get (⟦<MemDisk as Disk>⟧.reads self.new) number ≡ Some []) }
-        ensures told { ⟦<MemDisk as Disk>⟧.tells self.new ≡ ⟦<MemDisk as Disk>⟧.tells self.old }
-        ensures seen { IsTrue (⟦<MemDisk as Disk>⟧.tells self.old) → Changes number Created (⟦<MemDisk as Disk>⟧.reads self.old) (⟦<MemDisk as Disk>⟧.reads self.new) }
-        ensures pending { (n : ℕ) → ⟦<MemDisk as Disk>⟧.removing self.new n → ⟦<MemDisk as Disk>⟧.removing self.old n }
-        ensures crash { Follows (Changes number Created) (⟦<MemDisk as Disk>⟧.may_leave self.old) (⟦<MemDisk as Disk>⟧.may_leave self.new) }
-        ensures time { Elapses ⟦<MemDisk as Disk>⟧.moment ⟦<MemDisk as Disk>⟧.left_since ⟦<MemDisk as Disk>⟧.may_leave self.old self.new }
-        ensures cause { HasCause (⟦<MemDisk as Disk>⟧.faults self.old) (⟦<MemDisk as Disk>⟧.faults self.new) result }
+        requires absent { get (files_of self.old) number ≡ None }
+        requires not_removed { removed_on self.old number → ⊥ }
+        ensures created { OnOk result (get (files_of self.new) number ≡ Some []) }
+        ensures seen { Changes number Created (files_of self.old) (files_of self.new) }
+        ensures pending { (n : ℕ) → removed_on self.new n → removed_on self.old n }
+        ensures crash { Follows (Changes number Created) (left_by self.old) (left_by self.new) }
+        ensures time { Elapses moment_of left_since_by left_by self.old self.new }
+        ensures cause { HasCause (faults_of self.old) (faults_of self.new) result }
         ensures plays { Plays (Call.Create number) self.old self.new result }
     {
         let empty = Vec::new(self.alloc);
@@ -81,14 +79,13 @@ impl Disk for MemDisk {
     }
 
     fn length(&mut self, number: u64) -> Result<u64, Fault>
-        requires there { IsTrue (⟦<MemDisk as Disk>⟧.tells self.old) → IsSome (get (⟦<MemDisk as Disk>⟧.reads self.old) number) }
-        ensures length { IfOk result (λ n. IsTrue (⟦<MemDisk as Disk>⟧.tells self.old) → n ≡ length (bytes_at (⟦<MemDisk as Disk>⟧.reads self.old) number)) }
-        ensures told { ⟦<MemDisk as Disk>⟧.tells self.new ≡ ⟦<MemDisk as Disk>⟧.tells self.old }
-        ensures seen { ⟦<MemDisk as Disk>⟧.reads self.new ≡ ⟦<MemDisk as Disk>⟧.reads self.old }
-        ensures pending { (n : ℕ) → ⟦<MemDisk as Disk>⟧.removing self.new n → ⟦<MemDisk as Disk>⟧.removing self.old n }
-        ensures crash { Keeps (⟦<MemDisk as Disk>⟧.may_leave self.old) (⟦<MemDisk as Disk>⟧.may_leave self.new) }
-        ensures time { Elapses ⟦<MemDisk as Disk>⟧.moment ⟦<MemDisk as Disk>⟧.left_since ⟦<MemDisk as Disk>⟧.may_leave self.old self.new }
-        ensures cause { HasCause (⟦<MemDisk as Disk>⟧.faults self.old) (⟦<MemDisk as Disk>⟧.faults self.new) result }
+        requires there { IsSome (get (files_of self.old) number) }
+        ensures length { IfOk result (λ n. n ≡ length (bytes_at (files_of self.old) number)) }
+        ensures seen { files_of self.new ≡ files_of self.old }
+        ensures pending { (n : ℕ) → removed_on self.new n → removed_on self.old n }
+        ensures crash { Keeps (left_by self.old) (left_by self.new) }
+        ensures time { Elapses moment_of left_since_by left_by self.old self.new }
+        ensures cause { HasCause (faults_of self.old) (faults_of self.new) result }
         ensures plays { Plays (Call.Length number) self.old self.new result }
     {
         self.ask(Call::Length { number })?;
@@ -96,15 +93,14 @@ impl Disk for MemDisk {
     }
 
     fn read(&mut self, alloc: Global, number: u64, at: u64, room: u64) -> Result<Vec<u8>, Fault>
-        requires there { IsTrue (⟦<MemDisk as Disk>⟧.tells self.old) → IsSome (get (⟦<MemDisk as Disk>⟧.reads self.old) number) }
-        ensures bytes { IfOk result (λ bytes. IsTrue (⟦<MemDisk as Disk>⟧.tells self.old) → bytes.items ≡ take room (drop at (bytes_at (⟦<MemDisk as Disk>⟧.reads self.old) number))) }
+        requires there { IsSome (get (files_of self.old) number) }
+        ensures bytes { IfOk result (λ bytes. bytes.items ≡ take room (drop at (bytes_at (files_of self.old) number))) }
         ensures no_more { IfOk result (λ bytes. length bytes.items ≤ room) }
-        ensures told { ⟦<MemDisk as Disk>⟧.tells self.new ≡ ⟦<MemDisk as Disk>⟧.tells self.old }
-        ensures seen { ⟦<MemDisk as Disk>⟧.reads self.new ≡ ⟦<MemDisk as Disk>⟧.reads self.old }
-        ensures pending { (n : ℕ) → ⟦<MemDisk as Disk>⟧.removing self.new n → ⟦<MemDisk as Disk>⟧.removing self.old n }
-        ensures crash { Keeps (⟦<MemDisk as Disk>⟧.may_leave self.old) (⟦<MemDisk as Disk>⟧.may_leave self.new) }
-        ensures time { Elapses ⟦<MemDisk as Disk>⟧.moment ⟦<MemDisk as Disk>⟧.left_since ⟦<MemDisk as Disk>⟧.may_leave self.old self.new }
-        ensures cause { HasCause (⟦<MemDisk as Disk>⟧.faults self.old) (⟦<MemDisk as Disk>⟧.faults self.new) result }
+        ensures seen { files_of self.new ≡ files_of self.old }
+        ensures pending { (n : ℕ) → removed_on self.new n → removed_on self.old n }
+        ensures crash { Keeps (left_by self.old) (left_by self.new) }
+        ensures time { Elapses moment_of left_since_by left_by self.old self.new }
+        ensures cause { HasCause (faults_of self.old) (faults_of self.new) result }
         ensures plays { Plays (Call.Read number at room) self.old self.new result }
     {
         let bytes = part(file_of(&self.files, number), at, room).to_vec(alloc)?;
@@ -113,16 +109,14 @@ impl Disk for MemDisk {
     }
 
     fn write(&mut self, number: u64, at: u64, bytes: &[u8]) -> Result<(), Fault>
-        requires there { IsTrue (⟦<MemDisk as Disk>⟧.tells self.old) → IsSome (get (⟦<MemDisk as Disk>⟧.reads self.old) number) }
-        requires within { IsTrue (⟦<MemDisk as Disk>⟧.tells self.old) → at ≤ length (bytes_at (⟦<MemDisk as Disk>⟧.reads self.old) number) }
-        ensures written { OnOk result (IsTrue (⟦<MemDisk as Disk>⟧.tells self.old)
-            → get (⟦<MemDisk as Disk>⟧.reads self.new) number ≡ Some (overwritten at bytes.now (bytes_at (⟦<MemDisk as Disk>⟧.reads self.old) number))) }
-        ensures told { ⟦<MemDisk as Disk>⟧.tells self.new ≡ ⟦<MemDisk as Disk>⟧.tells self.old }
-        ensures seen { IsTrue (⟦<MemDisk as Disk>⟧.tells self.old) → Changes number (OnFile (Torn at (length bytes.now))) (⟦<MemDisk as Disk>⟧.reads self.old) (⟦<MemDisk as Disk>⟧.reads self.new) }
-        ensures pending { (n : ℕ) → ⟦<MemDisk as Disk>⟧.removing self.new n → ⟦<MemDisk as Disk>⟧.removing self.old n }
-        ensures crash { Follows (Changes number (OnFile (Torn at (length bytes.now)))) (⟦<MemDisk as Disk>⟧.may_leave self.old) (⟦<MemDisk as Disk>⟧.may_leave self.new) }
-        ensures time { Elapses ⟦<MemDisk as Disk>⟧.moment ⟦<MemDisk as Disk>⟧.left_since ⟦<MemDisk as Disk>⟧.may_leave self.old self.new }
-        ensures cause { HasCause (⟦<MemDisk as Disk>⟧.faults self.old) (⟦<MemDisk as Disk>⟧.faults self.new) result }
+        requires there { IsSome (get (files_of self.old) number) }
+        requires within { at ≤ length (bytes_at (files_of self.old) number) }
+        ensures written { OnOk result (get (files_of self.new) number ≡ Some (overwritten at bytes.now (bytes_at (files_of self.old) number))) }
+        ensures seen { Changes number (OnFile (Torn at (length bytes.now))) (files_of self.old) (files_of self.new) }
+        ensures pending { (n : ℕ) → removed_on self.new n → removed_on self.old n }
+        ensures crash { Follows (Changes number (OnFile (Torn at (length bytes.now)))) (left_by self.old) (left_by self.new) }
+        ensures time { Elapses moment_of left_since_by left_by self.old self.new }
+        ensures cause { HasCause (faults_of self.old) (faults_of self.new) result }
         ensures plays { Plays (Call.Write number at bytes.now) self.old self.new result }
     {
         let next = overwrite(self.alloc, file_of(&self.files, number), at, bytes)?;
@@ -136,28 +130,26 @@ impl Disk for MemDisk {
     }
 
     fn sync(&mut self, number: u64) -> Result<(), Fault>
-        requires there { IsTrue (⟦<MemDisk as Disk>⟧.tells self.old) → IsSome (get (⟦<MemDisk as Disk>⟧.reads self.old) number) }
-        ensures durable { OnOk result (IsSynced ⟦<MemDisk as Disk>⟧.reads ⟦<MemDisk as Disk>⟧.may_leave self.new number) }
-        ensures told { ⟦<MemDisk as Disk>⟧.tells self.new ≡ ⟦<MemDisk as Disk>⟧.tells self.old }
-        ensures seen { ⟦<MemDisk as Disk>⟧.reads self.new ≡ ⟦<MemDisk as Disk>⟧.reads self.old }
-        ensures pending { (n : ℕ) → ⟦<MemDisk as Disk>⟧.removing self.new n → ⟦<MemDisk as Disk>⟧.removing self.old n }
-        ensures crash { Keeps (⟦<MemDisk as Disk>⟧.may_leave self.old) (⟦<MemDisk as Disk>⟧.may_leave self.new) }
-        ensures time { Elapses ⟦<MemDisk as Disk>⟧.moment ⟦<MemDisk as Disk>⟧.left_since ⟦<MemDisk as Disk>⟧.may_leave self.old self.new }
-        ensures cause { HasCause (⟦<MemDisk as Disk>⟧.faults self.old) (⟦<MemDisk as Disk>⟧.faults self.new) result }
+        requires there { IsSome (get (files_of self.old) number) }
+        ensures durable { OnOk result (IsSynced files_of left_by self.new number) }
+        ensures seen { files_of self.new ≡ files_of self.old }
+        ensures pending { (n : ℕ) → removed_on self.new n → removed_on self.old n }
+        ensures crash { Keeps (left_by self.old) (left_by self.new) }
+        ensures time { Elapses moment_of left_since_by left_by self.old self.new }
+        ensures cause { HasCause (faults_of self.old) (faults_of self.new) result }
         ensures plays { Plays (Call.Sync number) self.old self.new result }
     {
         self.ask(Call::Sync { number })
     }
 
     fn remove(&mut self, number: u64) -> Result<(), Fault>
-        requires there { IsTrue (⟦<MemDisk as Disk>⟧.tells self.old) → IsSome (get (⟦<MemDisk as Disk>⟧.reads self.old) number) }
-        ensures removed { OnOk result (IsTrue (⟦<MemDisk as Disk>⟧.tells self.old) → get (⟦<MemDisk as Disk>⟧.reads self.new) number ≡ None) }
-        ensures told { ⟦<MemDisk as Disk>⟧.tells self.new ≡ ⟦<MemDisk as Disk>⟧.tells self.old }
-        ensures seen { IsTrue (⟦<MemDisk as Disk>⟧.tells self.old) → Changes number Removed (⟦<MemDisk as Disk>⟧.reads self.old) (⟦<MemDisk as Disk>⟧.reads self.new) }
-        ensures pending { (n : ℕ) → ⟦<MemDisk as Disk>⟧.removing self.new n → ⟦<MemDisk as Disk>⟧.removing self.old n ⊎ (n ≡ number) }
-        ensures crash { Follows (Changes number Removed) (⟦<MemDisk as Disk>⟧.may_leave self.old) (⟦<MemDisk as Disk>⟧.may_leave self.new) }
-        ensures time { Elapses ⟦<MemDisk as Disk>⟧.moment ⟦<MemDisk as Disk>⟧.left_since ⟦<MemDisk as Disk>⟧.may_leave self.old self.new }
-        ensures cause { HasCause (⟦<MemDisk as Disk>⟧.faults self.old) (⟦<MemDisk as Disk>⟧.faults self.new) result }
+        requires there { IsSome (get (files_of self.old) number) }
+        ensures removed { OnOk result (get (files_of self.new) number ≡ None) }
+        ensures seen { Changes number Removed (files_of self.old) (files_of self.new) }
+        ensures pending { (n : ℕ) → removed_on self.new n → removed_on self.old n ⊎ (n ≡ number) }
+        ensures crash { Follows (Changes number Removed) (left_by self.old) (left_by self.new) }
+        ensures time { Elapses moment_of left_since_by left_by self.old self.new }
+        ensures cause { HasCause (faults_of self.old) (faults_of self.new) result }
         ensures plays { Plays (Call.Remove number) self.old self.new result }
     {
         self.take_out(number)

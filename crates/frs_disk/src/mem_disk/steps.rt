@@ -3,9 +3,9 @@ ghost use Rattle.std.specs.Prelude.{◌≡◌, ◌⊎◌, ◌+◌, ℕ, true, le
 ghost use Rattle.std.specs.FinMap.{insert, remove};
 ghost use Rattle.frs_disk.specs.Disk.{Image, IsNumber, HasCause, Elapses, Keeps};
 ghost use Rattle.frs_disk.specs.Files.{image_of};
-ghost use Rattle.frs_disk.specs.Calls.{after_call, TakesCall, RemovesMade, CreatesMade, MayLeave, LeftSince, HasRemoved, Notes, MayTake};
+ghost use Rattle.frs_disk.specs.Calls.{after_call, TakesCall, RemovesMade, CreatesMade, Notes, MayTake};
 ghost use Rattle.frs_disk.specs.Faults.{FailsExactly, faults_after};
-ghost use Rattle.frs_disk.specs.Plans.{start_of, files_of, record_of, plan_of, faults_of, fails_at, Plays};
+ghost use Rattle.frs_disk.specs.Plans.{files_of, record_of, plan_of, left_by, left_since_by, moment_of, removed_on, fails_at, Plays};
 
 use super::MemDisk;
 use crate::calls::{Call, Made};
@@ -19,9 +19,9 @@ impl MemDisk {
         requires takes { (i old new : Image) → TakesCall call i old new → new ≡ old }
         requires removes { (n : ℕ) → RemovesMade true call n → ⊥ }
         requires creates { (n : ℕ) → CreatesMade true call n → ⊥ }
-        ensures pending { (n : ℕ) → HasRemoved (record_of self.new) n → HasRemoved (record_of self.old) n }
-        ensures crash { Keeps (MayLeave (start_of self.old) (record_of self.old)) (MayLeave (start_of self.new) (record_of self.new)) }
-        ensures time { Elapses (λ m. length (record_of m)) (λ m. LeftSince (start_of m) (record_of m)) (λ m. MayLeave (start_of m) (record_of m)) self.old self.new }
+        ensures pending { (n : ℕ) → removed_on self.new n → removed_on self.old n }
+        ensures crash { Keeps (left_by self.old) (left_by self.new) }
+        ensures time { Elapses moment_of left_since_by left_by self.old self.new }
         ensures files { self.new.files ≡ self.old.files }
         ensures cause { HasCause self.old.faults self.new.faults result }
         ensures plays { Plays call self.old self.new result }
@@ -37,9 +37,9 @@ impl MemDisk {
         requires removes { (n : ℕ) → RemovesMade true call n → ⊥ }
         ensures changed { OnOk result (files_of self.new ≡ insert (files_of self.old) number next.items) }
         ensures files { OnErr result (self.new.files.items ≡ self.old.files.items) }
-        ensures pending { (n : ℕ) → HasRemoved (record_of self.new) n → HasRemoved (record_of self.old) n }
-        ensures leaves { MayTake call (files_of self.old) (MayLeave (start_of self.old) (record_of self.old)) (MayLeave (start_of self.new) (record_of self.new)) }
-        ensures time { Elapses (λ m. length (record_of m)) (λ m. LeftSince (start_of m) (record_of m)) (λ m. MayLeave (start_of m) (record_of m)) self.old self.new }
+        ensures pending { (n : ℕ) → removed_on self.new n → removed_on self.old n }
+        ensures leaves { MayTake call (files_of self.old) (left_by self.old) (left_by self.new) }
+        ensures time { Elapses moment_of left_since_by left_by self.old self.new }
         ensures cause { HasCause self.old.faults self.new.faults result }
         ensures plays { Plays call self.old self.new result }
     {
@@ -56,10 +56,10 @@ impl MemDisk {
     pub(super) fn take_out(&mut self, number: u64) -> Result<(), Fault>
         ensures removed { OnOk result (files_of self.new ≡ remove (files_of self.old) number) }
         ensures files { OnErr result (self.new.files.items ≡ self.old.files.items) }
-        ensures pending { (n : ℕ) → HasRemoved (record_of self.new) n → HasRemoved (record_of self.old) n ⊎ (n ≡ number) }
-        ensures leaves { MayTake (Call.Remove number) (files_of self.old) (MayLeave (start_of self.old) (record_of self.old))
-            (MayLeave (start_of self.new) (record_of self.new)) }
-        ensures time { Elapses (λ m. length (record_of m)) (λ m. LeftSince (start_of m) (record_of m)) (λ m. MayLeave (start_of m) (record_of m)) self.old self.new }
+        ensures pending { (n : ℕ) → removed_on self.new n → removed_on self.old n ⊎ (n ≡ number) }
+        ensures leaves { MayTake (Call.Remove number) (files_of self.old) (left_by self.old)
+            (left_by self.new) }
+        ensures time { Elapses moment_of left_since_by left_by self.old self.new }
         ensures cause { HasCause self.old.faults self.new.faults result }
         ensures plays { Plays (Call.Remove number) self.old self.new result }
     {

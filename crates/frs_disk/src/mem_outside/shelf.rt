@@ -1,5 +1,5 @@
 // A shelf in memory.
-ghost use Rattle.std.specs.Prelude.{◌≡◌, ◌≢◌, ◌<◌, ◌≤◌, ℕ, List, [], true, length, set, map, T, IsTrue, IfOk, OnOk, OnErr, MatchResult};
+ghost use Rattle.std.specs.Prelude.{◌≡◌, ◌≢◌, ◌<◌, ◌≤◌, ℕ, List, [], true, length, set, map, T, IfOk, OnOk, OnErr, MatchResult};
 ghost use Rattle.std.specs.List.{insert as insert_at};
 ghost use Rattle.std.specs.FinMap.{empty, entries, get, insert, put, is_sorted};
 ghost use Rattle.std.specs.Ordering.{nat_cmp};
@@ -20,8 +20,8 @@ impl MemShelf {
     /// A shelf that holds nothing. The calls with the numbers in `failing`, counted from 1, will fail; a call that
     /// is refused for memory isn't counted.
     pub fn of(alloc: Global, failing: Vec<u64>) -> Result<MemShelf, NoMemory>
-        ensures empty { IfOk result (λ made. ⟦<MemShelf as Shelf>⟧.holds made ≡ empty) }
-        ensures faults { IfOk result (λ made. ⟦<MemShelf as Shelf>⟧.faults made ≡ 0) }
+        ensures empty { IfOk result (λ made. held_on made ≡ empty) }
+        ensures faults { IfOk result (λ made. (shelf_tally made).faults ≡ 0) }
         ensures tally { IfOk result (λ made. shelf_tally made ≡ new_tally failing) }
     {
         Ok(MemShelf {
@@ -34,7 +34,7 @@ impl MemShelf {
     /// What it holds: the number of a snapshot, that of a segment and the segment's bytes, in rising order of the
     /// numbers.
     pub fn held(&self) -> &[(u64, u64, Vec<u8>)]
-        ensures { entries (⟦<MemShelf as Shelf>⟧.holds self.now) ≡ shelved result.now }
+        ensures { entries (held_on self.now) ≡ shelved result.now }
     {
         &self.held
     }
@@ -48,10 +48,9 @@ impl Shelf for MemShelf {
     ghost faults = { λ m. (shelf_tally m).faults };
 
     fn greatest(&mut self) -> Result<u64, Fault>
-        ensures greatest { IfOk result (λ n. IsTrue (⟦<MemShelf as Shelf>⟧.tells self.old) → n ≡ greatest_snapshot (⟦<MemShelf as Shelf>⟧.holds self.old)) }
-        ensures told { ⟦<MemShelf as Shelf>⟧.tells self.new ≡ ⟦<MemShelf as Shelf>⟧.tells self.old }
-        ensures kept { ⟦<MemShelf as Shelf>⟧.holds self.new ≡ ⟦<MemShelf as Shelf>⟧.holds self.old }
-        ensures cause { HasCause (⟦<MemShelf as Shelf>⟧.faults self.old) (⟦<MemShelf as Shelf>⟧.faults self.new) result }
+        ensures greatest { IfOk result (λ n. n ≡ greatest_snapshot (held_on self.old)) }
+        ensures kept { held_on self.new ≡ held_on self.old }
+        ensures cause { HasCause (shelf_tally self.old).faults (shelf_tally self.new).faults result }
         ensures planned { FailsExactly (next_fails (shelf_tally self.old)) result }
         ensures counted { shelf_tally self.new ≡ tally_after result (shelf_tally self.old) }
     {
@@ -63,12 +62,10 @@ impl Shelf for MemShelf {
     }
 
     fn put(&mut self, snapshot: u64, segment: u64, bytes: &[u8]) -> Result<(), Fault>
-        ensures set { OnOk result (IsTrue (⟦<MemShelf as Shelf>⟧.tells self.old)
-            → ⟦<MemShelf as Shelf>⟧.holds self.new ≡ insert (⟦<MemShelf as Shelf>⟧.holds self.old) (snapshot, segment) bytes.now) }
-        ensures others { (q : ℕ × ℕ) → q ≢ (snapshot, segment) → get (⟦<MemShelf as Shelf>⟧.holds self.new) q ≡ get (⟦<MemShelf as Shelf>⟧.holds self.old) q }
-        ensures told { ⟦<MemShelf as Shelf>⟧.tells self.new ≡ ⟦<MemShelf as Shelf>⟧.tells self.old }
-        ensures cause { HasCause (⟦<MemShelf as Shelf>⟧.faults self.old) (⟦<MemShelf as Shelf>⟧.faults self.new) result }
-        ensures refused { OnErr result (⟦<MemShelf as Shelf>⟧.holds self.new ≡ ⟦<MemShelf as Shelf>⟧.holds self.old) }
+        ensures set { OnOk result (held_on self.new ≡ insert (held_on self.old) (snapshot, segment) bytes.now) }
+        ensures others { (q : ℕ × ℕ) → q ≢ (snapshot, segment) → get (held_on self.new) q ≡ get (held_on self.old) q }
+        ensures cause { HasCause (shelf_tally self.old).faults (shelf_tally self.new).faults result }
+        ensures refused { OnErr result (held_on self.new ≡ held_on self.old) }
         ensures planned { FailsExactly (next_fails (shelf_tally self.old)) result }
         ensures counted { shelf_tally self.new ≡ tally_after result (shelf_tally self.old) }
     {

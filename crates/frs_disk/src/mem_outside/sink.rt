@@ -1,5 +1,5 @@
 // A sink in memory.
-ghost use Rattle.std.specs.Prelude.{◌≡◌, ◌++◌, [], true, IsTrue, IfOk, OnOk, OnErr};
+ghost use Rattle.std.specs.Prelude.{◌≡◌, ◌++◌, [], true, IfOk, OnOk, OnErr};
 ghost use Rattle.frs_disk.specs.Disk.{HasCause};
 ghost use Rattle.frs_disk.specs.Faults.{FailsExactly};
 ghost use Rattle.frs_disk.specs.Outside.{AddsPartOf};
@@ -15,8 +15,8 @@ impl MemSink {
     /// A sink to which nothing was written. The calls with the numbers in `failing`, counted from 1, will fail; a
     /// call that is refused for memory isn't counted.
     pub fn of(alloc: Global, failing: Vec<u64>) -> Result<MemSink, NoMemory>
-        ensures empty { IfOk result (λ made. ⟦<MemSink as Sink>⟧.written made ≡ []) }
-        ensures faults { IfOk result (λ made. ⟦<MemSink as Sink>⟧.faults made ≡ 0) }
+        ensures empty { IfOk result (λ made. written_to made ≡ []) }
+        ensures faults { IfOk result (λ made. (sink_tally made).faults ≡ 0) }
         ensures tally { IfOk result (λ made. sink_tally made ≡ new_tally failing) }
     {
         Ok(MemSink {
@@ -27,7 +27,7 @@ impl MemSink {
 
     /// All that was written.
     pub fn bytes(&self) -> &[u8]
-        ensures { result.now ≡ ⟦<MemSink as Sink>⟧.written self.now }
+        ensures { result.now ≡ written_to self.now }
     {
         self.bytes.as_slice()
     }
@@ -41,12 +41,10 @@ impl Sink for MemSink {
     ghost faults = { λ m. (sink_tally m).faults };
 
     fn write(&mut self, bytes: &[u8]) -> Result<(), Fault>
-        ensures whole { OnOk result (IsTrue (⟦<MemSink as Sink>⟧.tells self.old)
-            → ⟦<MemSink as Sink>⟧.written self.new ≡ ⟦<MemSink as Sink>⟧.written self.old ++ bytes.now) }
-        ensures part { IsTrue (⟦<MemSink as Sink>⟧.tells self.old) → AddsPartOf bytes.now (⟦<MemSink as Sink>⟧.written self.old) (⟦<MemSink as Sink>⟧.written self.new) }
-        ensures told { ⟦<MemSink as Sink>⟧.tells self.new ≡ ⟦<MemSink as Sink>⟧.tells self.old }
-        ensures cause { HasCause (⟦<MemSink as Sink>⟧.faults self.old) (⟦<MemSink as Sink>⟧.faults self.new) result }
-        ensures refused { OnErr result (⟦<MemSink as Sink>⟧.written self.new ≡ ⟦<MemSink as Sink>⟧.written self.old) }
+        ensures whole { OnOk result (written_to self.new ≡ written_to self.old ++ bytes.now) }
+        ensures part { AddsPartOf bytes.now (written_to self.old) (written_to self.new) }
+        ensures cause { HasCause (sink_tally self.old).faults (sink_tally self.new).faults result }
+        ensures refused { OnErr result (written_to self.new ≡ written_to self.old) }
         ensures planned { FailsExactly (next_fails (sink_tally self.old)) result }
         ensures counted { sink_tally self.new ≡ tally_after result (sink_tally self.old) }
     {

@@ -1,9 +1,9 @@
-use Rattle.std.proofs.Common.{◌≡◌, ◌∙◌, ℕ, ap, ◌<◌, ◌≤◌, length, add-one, arith, rules}
+use Rattle.std.proofs.Common.{◌≡◌, ◌∙◌, ℕ, ap, ◌<◌, length, add-one, arith, rules}
 use Rattle.std.specs.declared.cmp.Ordering.TheVariants.{Less, Equal, Greater}
 use Rattle.std.specs.List.{insert as insert_at}
 use Rattle.frs_disk.specs.Shelved.{shelved}
 use Rattle.frs_disk.specs.Outside.{shelf_cmp}
-use Rattle.frs_disk.proofs.ShelfLemmas.{Passed, passed_start, passed_more, set_here, insert_here, insert_last}
+use Rattle.frs_disk.proofs.ShelfLemmas.{passed_start, passed_more, set_here, insert_here, insert_last}
 use Rattle.frs_disk.proofs.mem_outside.shelf.place_of.Goals as goal
 
 pub loop-at-init : goal.loop-at-init

@@ -1,4 +1,4 @@
-use Rattle.std.proofs.Common.{◌≡◌, T, rules, ◌∙◌, ap, sym, subst, ℕ, List, Vec, map}
+use Rattle.std.proofs.Common.{◌≡◌, T, rules, ◌∙◌, sym, subst, ℕ, List, Vec, map}
 use Rattle.std.specs.Prelude.{All}
 use Rattle.std.specs.List.Sorted.{IsStrictlyIncreasing}
 use Rattle.std.specs.declared.alloc.Global.{Global}
@@ -14,7 +14,7 @@ numbers : (files : List (ℕ × Vec ℕ Global)) (ns : List ℕ) → ns ≡ map 
 numbers files ns is rising = is ∙ sym (keys-image_of files rising)
 
 pub returns-clause-numbers : goal.returns-clause-numbers
-returns-clause-numbers c told =
+returns-clause-numbers c =
     let is : c.in_ok-numbers.numbers.items ≡ map (λ (g : ℕ × Vec ℕ Global). g.0) c.args.self.now.files.items = search rules in
     numbers c.args.self.now.files.items _ is c.args.self.now.rising
 

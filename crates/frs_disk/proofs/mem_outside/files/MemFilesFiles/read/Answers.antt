@@ -1,4 +1,4 @@
-use Rattle.std.proofs.Common.{◌≡◌, Some, rules, arith}
+use Rattle.std.proofs.Common.{◌≡◌, Some, arith}
 use Rattle.std.proofs.lemmas.Grind.{common_steps}
 use Rattle.frs_disk.specs.MemOutside.{file_named}
 use Rattle.frs_disk.proofs.ShortFiles.{named_short}

@@ -5,6 +5,6 @@ use Rattle.frs_disk.proofs.ShelfLemmas.{greatest_held}
 use Rattle.frs_disk.proofs.mem_outside.shelf.MemShelfShelf.greatest.Goals as goal
 
 pub returns-clause-greatest : goal.returns-clause-greatest
-returns-clause-greatest c told =
+returns-clause-greatest c =
     let is : c.greatest_in.result ≡ greatest_of (map (λ (e : ℕ × ℕ × Vec ℕ Global). e.0) c.args.self.now.held.items) = search rules in
     is ∙ sym (greatest_held c.args.self.now.held.items c.args.self.now.rising)

@@ -1,6 +1,6 @@
-use Rattle.std.proofs.Common.{◌≡◌, ◌∙◌, ℕ, List, ap, sym, rules}
-use Rattle.std.specs.FinMap.{get, insert, put}
-use Rattle.frs_disk.specs.Outside.{ShelfFiles, shelf_cmp}
+use Rattle.std.proofs.Common.{◌≡◌, ◌∙◌, ℕ, List, ap, rules}
+use Rattle.std.specs.FinMap.{get, insert}
+use Rattle.frs_disk.specs.Outside.{ShelfFiles}
 use Rattle.frs_disk.specs.Shelved.{shelved}
 use Rattle.frs_disk.specs.MemOutside.{held_on}
 use Rattle.frs_disk.proofs.ShelfLemmas.{put_rising, put_map, get-insert_elsewhere}
@@ -12,7 +12,7 @@ invariant_of-self-2 c = record {
 }
 
 pub returns-clause-set : goal.returns-clause-set
-returns-clause-set c told =
+returns-clause-set c =
     let copied : c.in_ok-copy.copy.items ≡ c.args.bytes.now = search rules in
     put_map (shelved c.args.self.now.held.items) (shelved c.put_segment.new.held.items) (c.args.snapshot, c.args.segment) c.in_ok-copy.copy.items c.args.self.now.rising c.in_ok-put_segment.ensures.ok
     ∙ ap (λ (b : List ℕ). insert (held_on c.args.self.now) (c.args.snapshot, c.args.segment) b) copied
