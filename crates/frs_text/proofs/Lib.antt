@@ -1,3 +1,4 @@
 mod FoundLines
 mod Gathered
 mod JoinedWords
+mod WordParts

@@ -1,3 +1,5 @@
 pub mod Lines
+pub mod Reading
+pub mod Scripts
 pub mod Sinks
 pub mod Text

@@ -5,8 +5,11 @@ mod find;
 mod history_text;
 mod lines;
 mod plan;
+mod script_fault;
 mod text;
+mod word_split;
 
 
+pub use script_fault::ScriptFault;
 pub use plan::{FileNames, Job, PlainPlan, Plan, RunPlan};
 pub use history_text::transcript;
