@@ -1,3 +1,4 @@
+mod Escapes
 mod FoundLines
 mod Gathered
 mod JoinedWords

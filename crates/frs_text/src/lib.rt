@@ -1,10 +1,12 @@
 //! Texts: what is printed of a history, and what is read of a script and of a command line.
 #![tactic(auto)]
 
+mod escape;
 mod find;
 mod history_text;
 mod lines;
 mod plan;
+mod said;
 mod script_fault;
 mod text;
 mod word_split;
