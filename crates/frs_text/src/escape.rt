@@ -1,5 +1,5 @@
 //! The bytes for which a word stands.
-ghost use Rattle.std.specs.Prelude.{◌≡◌, ◌<◌, None, length, IsTrue, IfOk, IfSome, MatchOption, option_map};
+ghost use Rattle.std.specs.Prelude.{◌≡◌, ◌<◌, ◌≤◌, None, length, IsTrue, IfOk, IfSome, MatchOption, option_map};
 ghost use Rattle.std.specs.Cow.{cow_slice_items};
 ghost use Rattle.frs_text.specs.Scripts.{is_hex, hex_value, with_byte, unescaped, meant, named};
 
@@ -80,7 +80,8 @@ pub(crate) fn meaning(alloc: Global, word: &[u8]) -> Result<Option<CowSlice<'_, 
 
 /// The same of an id or a key, which has at least one byte.
 pub(crate) fn name_meaning(alloc: Global, word: &[u8]) -> Result<Option<CowSlice<'_, u8>>, NoMemory>
-    ensures { IfOk result (λ found. option_map cow_slice_items found ≡ named word.now) }
+    ensures found { IfOk result (λ found. option_map cow_slice_items found ≡ named word.now) }
+    ensures filled { IfOk result (λ found. IfSome found (λ bytes. 1 ≤ length (cow_slice_items bytes))) }
 {
     match meaning(alloc, word)? {
         Some(bytes) if bytes.len() > 0 => Ok(Some(bytes)),
