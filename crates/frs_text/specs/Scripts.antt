@@ -1,5 +1,5 @@
 -- Scripts: what each line says, and which line is refused.
-use Rattle.std.specs.Prelude.{ℕ, ◌+◌, ◌-◌, ◌*◌, Bool, true, false, not, ◌&&◌, ◌||◌, ◌==◌, nat_lt, nat_le, List, [], ◌∷◌, ◌++◌, length, filter, fold, count_by, Option, Some, None, option_map, option_and_then, Result, Ok, Err, if◌then◌else◌, codes}
+use Rattle.std.specs.Prelude.{◌≡◌, ℕ, ◌+◌, ◌-◌, ◌*◌, Bool, true, false, not, ◌&&◌, ◌||◌, ◌==◌, nat_lt, nat_le, List, [], ◌∷◌, ◌++◌, length, filter, fold, count_by, Option, Some, None, option_map, option_and_then, Result, Ok, Err, if◌then◌else◌, codes}
 use Rattle.std.specs.List.{list_all, slice_split}
 use Rattle.std.specs.Str.{bytes_eq}
 use Rattle.std.specs.Str.Lines.{lines}
@@ -8,7 +8,7 @@ use Rattle.frs_history.specs.declared.command.Command.TheVariants as command
 use Rattle.frs_history.specs.declared.command.Line.{Line}
 use Rattle.frs_history.specs.Scripts.{may_stand, inside_after}
 use Rattle.frs_text.specs.declared.script_fault.ScriptFault.{ScriptFault}
-use Rattle.frs_text.specs.declared.script_fault.ScriptFault.TheVariants.{BadLine, TooLong, TooMany}
+use Rattle.frs_text.specs.declared.script_fault.ScriptFault.TheVariants.{BadLine, TooLong, TooMany, Memory}
 
 -- ---- words
 
@@ -173,6 +173,9 @@ pub record Allowed : Type 0 where
   pub commands : ℕ
   pub snapshots : ℕ
 
+abbrev pub up_to : ℕ → ℕ → Allowed
+up_to commands snapshots = record { commands = commands; snapshots = snapshots }
+
 -- an id, key or value is above its limit
 abbrev pub is_long : Command → Bool
 is_long (command.Put id key value) = nat_lt 64 (length id) || nat_lt 255 (length key) || nat_lt 65535 (length value)
@@ -219,3 +222,15 @@ script_after allowed before n (bytes ∷ rest) =
 -- the script of a file's bytes, or the first line that is refused
 abbrev pub script_of : Allowed → List ℕ → Result (List Line) ScriptFault
 script_of allowed bytes = script_after allowed [] 1 (lines bytes)
+
+-- ---- answers
+
+-- the answer is want of memory, or this holds
+abbrev pub MemoryOr : ScriptFault → Type 0 → Type 0
+MemoryOr Memory P = Unit {0}
+MemoryOr other P = P
+
+-- the answer is what the bytes read as, unless there was no memory
+abbrev pub Parses : Result (List Line) ScriptFault → Result (List Line) ScriptFault → Type 0
+Parses (Ok script) read = read ≡ Ok script
+Parses (Err fault) read = MemoryOr fault (read ≡ Err fault)
