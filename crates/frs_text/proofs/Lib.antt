@@ -2,6 +2,7 @@ mod Escapes
 mod FoundLines
 mod Gathered
 mod JoinedWords
+mod Numbers
 mod SaidLines
 mod ScriptLaw
 mod WordParts

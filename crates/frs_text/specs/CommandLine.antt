@@ -12,7 +12,7 @@ use Rattle.frs_text.specs.declared.words_fault.WordsFault.{WordsFault}
 use Rattle.frs_text.specs.declared.words_fault.WordsFault.TheVariants.{Usage, Memory}
 
 -- the number from 1 to this one that is written so, in decimal without a leading zero
-abbrev pub number_up_to : ℕ → List ℕ → Option ℕ
+unfoldable pub number_up_to : ℕ → List ℕ → Option ℕ
 number_up_to most word = find (λ n. bytes_eq (decimal n) word) (range_with_len 1 most)
 
 -- `demo CLIENTS COUNT`: the words from the third, the fourth and the fifth on
