@@ -16,8 +16,9 @@ find_none p a (suc k) other = cond-false _ _ _ (other a (omega arith) (omega ari
 find_first : (p : ℕ → Bool) (a k n : ℕ) → a ≤ n → n < a + k → p n ≡ true → ((m : ℕ) → a ≤ m → m < n → p m ≡ false) → find p (range_with_len a k) ≡ Some n
 find_first p a zero n le lt t other = absurd (omega arith)
 find_first p a (suc k) n le lt t other = elim (cases_eq a n) [
-    inl same ↦ cond-true _ _ _ (ap p same ∙ t) ∙ ap (λ m. Some m) same
-  | inr apart ↦ cond-false _ _ _ (other a (omega arith) (omega (arith, apart))) ∙ find_first p (a + 1) k n (omega (arith, apart)) (omega arith) t (λ m low high. other m (omega arith) high) ]
+  | inl same ↦ cond-true _ _ _ (ap p same ∙ t) ∙ ap (λ m. Some m) same
+  | inr apart ↦ cond-false _ _ _ (other a (omega arith) (omega (arith, apart))) ∙ find_first p (a + 1) k n (omega (arith, apart)) (omega arith) t (λ m low high. other m (omega arith) high)
+]
 
 -- no number in range is written so
 pub no_number : (most : ℕ) (word : List ℕ) → ((m : ℕ) → 1 ≤ m → m ≤ most → word ≡ decimal m → ⊥) → None ≡ number_up_to most word

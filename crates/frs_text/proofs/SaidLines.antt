@@ -44,5 +44,6 @@ pub long_fault : (allowed : Allowed) (before : List Line) (n : ℕ) (s : Said) �
 long_fault allowed before n Nothing e = cc
 long_fault allowed before n Wrong e = cc
 long_fault allowed before n (Says x) e = elim (says_seen x) [
-    inl p ↦ cond-true _ _ _ (long_may_stand (is_inside before) x p.1) ∙ cond-true _ _ _ p.1
-  | inr p ↦ let q = p.0 in cc ]
+  | inl p ↦ cond-true _ _ _ (long_may_stand (is_inside before) x p.1) ∙ cond-true _ _ _ p.1
+  | inr p ↦ let q = p.0 in cc
+]

@@ -10,16 +10,18 @@ use Rattle.frs_text.specs.Scripts.{is_blank, is_filled, words_of}
 -- where `position` finds an element
 pub at_position : (p : ℕ → Bool) (xs : List ℕ) (i : ℕ) → Some i ≡ position p xs → (position_or_len p xs ≡ i) × (i < length xs)
 at_position p xs i e = elim (cases_Bool (nat_lt (position_or_len p xs) (length xs))) [
-    inl t ↦ let found : position p xs ≡ Some (position_or_len p xs) = cond-true _ _ _ t in
-            let same : i ≡ position_or_len p xs = cc in
-            let lt : position_or_len p xs < length xs = ltb-true _ _ t in
-            (sym same, omega arith)
-  | inr f ↦ let found : position p xs ≡ None = cond-false _ _ _ f in cc ]
+  | inl t ↦ let found : position p xs ≡ Some (position_or_len p xs) = cond-true _ _ _ t in
+      let same : i ≡ position_or_len p xs = cc in
+      let lt : position_or_len p xs < length xs = ltb-true _ _ t in
+      (sym same, omega arith)
+  | inr f ↦ let found : position p xs ≡ None = cond-false _ _ _ f in cc
+]
 
 pub no_position : (p : ℕ → Bool) (xs : List ℕ) → None ≡ position p xs → length xs ≤ position_or_len p xs
 no_position p xs e = elim (cases_Bool (nat_lt (position_or_len p xs) (length xs))) [
-    inl t ↦ let found : position p xs ≡ Some (position_or_len p xs) = cond-true _ _ _ t in cc
-  | inr f ↦ ltb-false _ _ f ]
+  | inl t ↦ let found : position p xs ≡ Some (position_or_len p xs) = cond-true _ _ _ t in cc
+  | inr f ↦ ltb-false _ _ f
+]
 
 -- the parts behind the first: none at the end, and else those behind the element that passes
 abbrev pub parts_behind : (ℕ → Bool) → List ℕ → List (List ℕ)
@@ -29,9 +31,10 @@ parts_behind p (x ∷ xs) = slice_split p xs
 pub first_part : (p : ℕ → Bool) (xs : List ℕ) → slice_split p xs ≡ take (position_or_len p xs) xs ∷ parts_behind p (drop (position_or_len p xs) xs)
 first_part p [] = refl
 first_part p (x ∷ xs) = elim (cases_Bool (p x)) [
-    inl t ↦ rw t refl
+  | inl t ↦ rw t refl
   | inr f ↦ let more : 1 + position_or_len p xs ≡ suc (position_or_len p xs) = omega arith in
-            rw (f, more) (ap (onto_first x) (first_part p xs)) ]
+      rw (f, more) (ap (onto_first x) (first_part p xs))
+]
 
 -- ---- words
 
@@ -43,17 +46,19 @@ filled_parts p xs = filter is_filled (slice_split p xs)
 pub filled-from : (p : ℕ → Bool) (xs : List ℕ) → filled_parts p xs ≡ filled_parts p (drop (position_or_len (λ b. not (p b)) xs) xs)
 filled-from p [] = refl
 filled-from p (x ∷ xs) = elim (cases_Bool (p x)) [
-    inl t ↦ let more : 1 + position_or_len (λ b. not (p b)) xs ≡ suc (position_or_len (λ b. not (p b)) xs) = omega arith in
-            rw (t, more) (filled-from p xs)
-  | inr f ↦ rw (f, f) refl ]
+  | inl t ↦ let more : 1 + position_or_len (λ b. not (p b)) xs ≡ suc (position_or_len (λ b. not (p b)) xs) = omega arith in
+      rw (t, more) (filled-from p xs)
+  | inr f ↦ rw (f, f) refl
+]
 
 -- what stands behind the first part
 pub filled-behind : (p : ℕ → Bool) (xs : List ℕ) → filter is_filled (parts_behind p (drop (position_or_len p xs) xs)) ≡ filled_parts p (drop (position_or_len p xs) xs)
 filled-behind p [] = refl
 filled-behind p (x ∷ xs) = elim (cases_Bool (p x)) [
-    inl t ↦ rw (t, t) refl
+  | inl t ↦ rw (t, t) refl
   | inr f ↦ let more : 1 + position_or_len p xs ≡ suc (position_or_len p xs) = omega arith in
-            rw (f, more) (filled-behind p xs) ]
+      rw (f, more) (filled-behind p xs)
+]
 
 -- a list that begins with an element that fails begins with a part
 pub filled-first : (p : ℕ → Bool) (xs : List ℕ) → 0 < length xs → p (get_or xs 0 0) ≡ false
@@ -73,10 +78,11 @@ no_part p xs e = filled-from p xs ∙ ap (λ ys. filled_parts p ys) (drop_all _ 
 -- the first element that fails begins a part
 pub begins : (p : ℕ → Bool) (xs : List ℕ) (s : ℕ) → Some s ≡ position (λ b. not (p b)) xs
     → (filled_parts p xs ≡ filled_parts p (drop s xs)) × (0 < length (drop s xs)) × (p (get_or (drop s xs) 0 0) ≡ false)
-begins p xs s e = let at = at_position (λ b. not (p b)) xs s e in let found = position-Some (λ b. not (p b)) xs s 0 (sym e) in
-    ( filled-from p xs ∙ ap (λ n. filled_parts p (drop n xs)) at.0
-    , omega (arith, length-drop s xs)
-    , not-true _ (ap (λ b. not (p b)) (get_or-drop s xs 0 0 ∙ ap (λ n. get_or xs n 0) (add-zero s)) ∙ found.1))
+begins p xs s e = let at = at_position (λ b. not (p b)) xs s e in let found = position-Some (λ b. not (p b)) xs s 0 (sym e) in (
+  filled-from p xs ∙ ap (λ n. filled_parts p (drop n xs)) at.0,
+  omega (arith, length-drop s xs),
+  not-true _ (ap (λ b. not (p b)) (get_or-drop s xs 0 0 ∙ ap (λ n. get_or xs n 0) (add-zero s)) ∙ found.1),
+)
 
 -- a part that goes to the end
 pub part_to_end : (p : ℕ → Bool) (xs : List ℕ) (s : ℕ) → Some s ≡ position (λ b. not (p b)) xs → None ≡ position p (take (length xs - s) (drop s xs))
@@ -119,6 +125,6 @@ line_before_feed xs i x e is = let at = at_position (λ b. eqb b 10) xs i e in
     let inside : i < length xs = at.1 in
     let rest : drop i xs ≡ get_or xs i 0 ∷ drop (i + 1) xs = rw add-one (drop-cons xs i 0 inside) in
     let parts : slice_split (λ b. eqb b 10) xs ≡ take i xs ∷ slice_split (λ b. eqb b 10) (drop (i + 1) xs) =
-        first_part (λ b. eqb b 10) xs ∙ ap (λ n. take n xs ∷ parts_behind (λ b. eqb b 10) (drop n xs)) at.0 ∙ ap (λ ys. take i xs ∷ parts_behind (λ b. eqb b 10) ys) rest in
+    first_part (λ b. eqb b 10) xs ∙ ap (λ n. take n xs ∷ parts_behind (λ b. eqb b 10) (drop n xs)) at.0 ∙ ap (λ ys. take i xs ∷ parts_behind (λ b. eqb b 10) ys) rest in
     ap lines_of_parts parts ∙ lines-part (take i xs) (λ b. eqb b 10) (drop (i + 1) xs)
     ∙ ap (λ front. front ∷ lines (drop (i + 1) xs)) (sym is) ∙ ap (λ ys. x ∷ lines ys) (sym (cut_rest xs (i + 1)))

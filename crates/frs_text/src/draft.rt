@@ -90,7 +90,13 @@ impl Draft {
     }
 
     // Adds a command that may follow. Where there is no memory, nothing is added.
-    fn add(&mut self, lines: u32, snapshots: u32, number: u32, command: Command) -> Result<(), NoMemory>
+    fn add(
+        &mut self,
+        lines: u32,
+        snapshots: u32,
+        number: u32,
+        command: Command,
+    ) -> Result<(), NoMemory>
         requires { IsTrue (not (is_past (up_to lines snapshots) self.old command)) }
         ensures { OnOk result (self.new ≡ self.old ++ (record { number = number; command = command }) ∷ []) }
     {
@@ -105,7 +111,13 @@ impl Draft {
     }
 
     // Adds the command of a line, where it may follow.
-    fn take(&mut self, lines: u32, snapshots: u32, number: u32, command: Command) -> Result<(), ScriptFault>
+    fn take(
+        &mut self,
+        lines: u32,
+        snapshots: u32,
+        number: u32,
+        command: Command,
+    ) -> Result<(), ScriptFault>
         requires { IsTrue (not (is_long command)) }
         ensures none { OnOk result (refusal (up_to lines snapshots) self.old number command ≡ None) }
         ensures added { OnOk result (self.new ≡ self.old ++ (record { number = number; command = command }) ∷ []) }
@@ -159,7 +171,8 @@ fn changes_with(inside: bool, changes: u32, command: &Command) -> u32
 {
     match command {
         Command::Begin { .. } => 0,
-        Command::Put { .. } | Command::Remove { .. } | Command::Delete { .. } if inside => changes + 1,
+        Command::Put { .. } | Command::Remove { .. } | Command::Delete { .. } if inside => changes
+            + 1,
         _ => changes,
     }
 }

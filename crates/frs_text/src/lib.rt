@@ -21,3 +21,6 @@ pub use plan::{FileNames, Job, PlainPlan, Plan, RunPlan};
 pub use script::parse_script;
 pub use script_fault::ScriptFault;
 pub use words_fault::WordsFault;
+
+#[cfg(test)]
+mod tests;

@@ -11,7 +11,12 @@ use std::alloc::Global;
 /// The script that the bytes of a file spell, where it may have so many commands and so many snapshots. Else the first
 /// line that is refused decides: `BadLine` where it is no command, `TooLong` where a word of it is too long, and
 /// `TooMany` where one command less was allowed, looked at in this order. There are fewer than 2^32 bytes.
-pub fn parse_script(alloc: Global, bytes: &[u8], lines: u32, snapshots: u32) -> Result<Script, ScriptFault>
+pub fn parse_script(
+    alloc: Global,
+    bytes: &[u8],
+    lines: u32,
+    snapshots: u32,
+) -> Result<Script, ScriptFault>
     requires { length bytes.now < 2 ^ 32 }
     ensures { Parses result (script_of (up_to lines snapshots) bytes.now) }
 {

@@ -27,7 +27,7 @@ returns c = no_number c.args.most c.args.word.now (λ m low high is.
     let got = parsed c.args.most m c.as_str.result.now c.parse.result c.parse.ensures.value.0 (omega (arith, c.ranges.most.fits)) high (c.as_str.ensures ∙ is) in
     let same : m ≡ c.in-Ok.number = cc in
     let equal : bytes_eq c.as_str-2.result.now c.as_str-3.result.now ≡ true =
-        (bytes_eq-Decides c.as_str-2.result.now c.as_str-3.result.now).1
-        (c.as_str-2.ensures.value ∙ c.in_ok-written.ensures.ok ∙ ap decimal (sym same) ∙ sym is ∙ sym c.as_str-3.ensures) in
+    (bytes_eq-Decides c.as_str-2.result.now c.as_str-3.result.now).1
+    (c.as_str-2.ensures.value ∙ c.in_ok-written.ensures.ok ∙ ap decimal (sym same) ∙ sym is ∙ sym c.as_str-3.ensures) in
     let apart = c.if-eq.ensures in
     cc)
