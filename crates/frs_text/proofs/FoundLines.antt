@@ -41,13 +41,15 @@ absent t low ls at h below above = not_found t ls (λ j d lt e. elim (cases_lt j
 -- the lines before the middle one have lower numbers, and those behind it have higher ones
 pub lower : (t low : ℕ) (ls : List Line) (m : ℕ) (d : Line) → IsTrue (rises_from low ls) → m < length ls → (get_or ls m d).number < t → (j : ℕ) (e : Line) → j < m + 1 → (get_or ls j e).number < t
 lower t low ls m d h inside below j e lt = elim (cases_lt j m) [
-    inl p ↦ omega (arith, rising low ls j m e h p inside, ap (λ (l : Line). l.number) (get_or_default ls m d e inside))
-  | inr q ↦ let same : j ≡ m = omega arith in rw same (omega (arith, ap (λ (l : Line). l.number) (get_or_default ls m d e inside))) ]
+  | inl p ↦ omega (arith, rising low ls j m e h p inside, ap (λ (l : Line). l.number) (get_or_default ls m d e inside))
+  | inr q ↦ let same : j ≡ m = omega arith in rw same (omega (arith, ap (λ (l : Line). l.number) (get_or_default ls m d e inside)))
+]
 
 pub higher : (t low : ℕ) (ls : List Line) (m : ℕ) (d : Line) → IsTrue (rises_from low ls) → m < length ls → t < (get_or ls m d).number → (j : ℕ) (e : Line) → m ≤ j → j < length ls → t < (get_or ls j e).number
 higher t low ls m d h inside above j e le lt = elim (cases_lt m j) [
-    inl p ↦ omega (arith, rising low ls m j e h p lt, ap (λ (l : Line). l.number) (get_or_default ls m d e inside))
-  | inr q ↦ let same : j ≡ m = omega arith in rw same (omega (arith, ap (λ (l : Line). l.number) (get_or_default ls m d e inside))) ]
+  | inl p ↦ omega (arith, rising low ls m j e h p lt, ap (λ (l : Line). l.number) (get_or_default ls m d e inside))
+  | inr q ↦ let same : j ≡ m = omega arith in rw same (omega (arith, ap (λ (l : Line). l.number) (get_or_default ls m d e inside)))
+]
 
 -- the same of a line that was read
 pub read_found : (t : ℕ) (ls : List Line) (m : ℕ) (x : Line) → IsTrue (rises_from 0 ls) → m < length ls → x ≡ get_or ls m x → x.number ≡ t → Some x ≡ find (λ (l : Line). eqb l.number t) ls

@@ -20,10 +20,11 @@ gathers_more o p n l t n2 l2 t2 a b = record {
 
 pub adds_more : (o p n l t n2 t2 : List ℕ) → Gathers o p n l t → AddsPartOf (l ++ t2) n n2 → AddsPartOf (p ++ (t ++ t2)) o n2
 adds_more o p n l t n2 t2 a b = (
-    a.taken ++ b.0,
-    b.1,
-    b.2 ∙ ap (λ x. x ++ b.0) a.appended ∙ append_assoc o a.taken b.0,
-    append_assoc a.taken b.0 b.1 ∙ ap (λ x. a.taken ++ x) b.3 ∙ sym (append_assoc a.taken l t2) ∙ ap (λ x. x ++ t2) a.rest ∙ append_assoc p t t2)
+  a.taken ++ b.0,
+  b.1,
+  b.2 ∙ ap (λ x. x ++ b.0) a.appended ∙ append_assoc o a.taken b.0,
+  append_assoc a.taken b.0 b.1 ∙ ap (λ x. a.taken ++ x) b.3 ∙ sym (append_assoc a.taken l t2) ∙ ap (λ x. x ++ t2) a.rest ∙ append_assoc p t t2,
+)
 
 -- a front of a text is one of a longer text
 pub adds_of_longer : (old new text more : List ℕ) → AddsPartOf text old new → AddsPartOf (text ++ more) old new

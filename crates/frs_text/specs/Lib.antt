@@ -1,3 +1,6 @@
+pub mod CommandLine
 pub mod Lines
+pub mod Reading
+pub mod Scripts
 pub mod Sinks
 pub mod Text

@@ -43,7 +43,12 @@ fn write_full<S: Sink>(text: &mut String, sink: &mut S) -> Result<(), Fault>
     write_gathered(text, sink)
 }
 
-fn write_event<S: Sink>(text: &mut String, scripts: &[Script], event: &Event, sink: &mut S) -> Result<(), Fault>
+fn write_event<S: Sink>(
+    text: &mut String,
+    scripts: &[Script],
+    event: &Event,
+    sink: &mut S,
+) -> Result<(), Fault>
     ensures all { OnOk result (IsTrue (S.tells sink.old) → Gathers (S.written sink.old) (string_bytes text.old) (S.written sink.new) (string_bytes text.new) (event_line scripts.now event.now)) }
     ensures part { IsTrue (S.tells sink.old) → AddsPartOf (string_bytes text.old ++ event_line scripts.now event.now) (S.written sink.old) (S.written sink.new) }
     ensures told { S.tells sink.new ≡ S.tells sink.old }
@@ -63,7 +68,12 @@ fn write_ack<S: Sink>(text: &mut String, ack: &Ack, sink: &mut S) -> Result<(), 
     write_full(text, sink)
 }
 
-fn write_events<S: Sink>(text: &mut String, scripts: &[Script], events: &[Event], sink: &mut S) -> Result<(), Fault>
+fn write_events<S: Sink>(
+    text: &mut String,
+    scripts: &[Script],
+    events: &[Event],
+    sink: &mut S,
+) -> Result<(), Fault>
     ensures all { OnOk result (IsTrue (S.tells sink.old) → Gathers (S.written sink.old) (string_bytes text.old) (S.written sink.new) (string_bytes text.new) (flat_map (event_line scripts.now) events.now)) }
     ensures part { IsTrue (S.tells sink.old) → AddsPartOf (string_bytes text.old ++ flat_map (event_line scripts.now) events.now) (S.written sink.old) (S.written sink.new) }
     ensures told { S.tells sink.new ≡ S.tells sink.old }
@@ -89,7 +99,13 @@ fn write_acks<S: Sink>(text: &mut String, acks: &[Ack], sink: &mut S) -> Result<
 
 /// Writes the lines of the events, in order, and then a line for each acknowledgement. The scripts are those of clients
 /// 1, 2, .. A fault of the sink, or want of memory, leaves a front of that text written.
-pub fn transcript<S: Sink>(alloc: Global, scripts: &[Script], events: &[Event], acks: &[Ack], sink: &mut S) -> Result<(), Fault>
+pub fn transcript<S: Sink>(
+    alloc: Global,
+    scripts: &[Script],
+    events: &[Event],
+    acks: &[Ack],
+    sink: &mut S,
+) -> Result<(), Fault>
     ensures all { OnOk result (IsTrue (S.tells sink.old) → S.written sink.new ≡ S.written sink.old ++ (flat_map (event_line scripts.now) events.now ++ flat_map ack_line acks.now)) }
     ensures part { IsTrue (S.tells sink.old) → AddsPartOf (flat_map (event_line scripts.now) events.now ++ flat_map ack_line acks.now) (S.written sink.old) (S.written sink.new) }
     ensures told { S.tells sink.new ≡ S.tells sink.old }

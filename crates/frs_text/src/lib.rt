@@ -1,12 +1,26 @@
 //! Texts: what is printed of a history, and what is read of a script and of a command line.
 #![tactic(auto)]
 
+mod command_line;
+mod draft;
+mod escape;
 mod find;
 mod history_text;
 mod lines;
 mod plan;
+mod said;
+mod script;
+mod script_fault;
 mod text;
+mod word_split;
+mod words_fault;
 
-
-pub use plan::{FileNames, Job, PlainPlan, Plan, RunPlan};
+pub use command_line::read_words;
 pub use history_text::transcript;
+pub use plan::{FileNames, Job, PlainPlan, Plan, RunPlan};
+pub use script::parse_script;
+pub use script_fault::ScriptFault;
+pub use words_fault::WordsFault;
+
+#[cfg(test)]
+mod tests;

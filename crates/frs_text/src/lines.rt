@@ -11,7 +11,12 @@ use frs_history::{Ack, Event, Script, What};
 use frs_types::NoMemory;
 
 // The command at that line of the client's script.
-fn push_command_at(text: &mut String, scripts: &[Script], client: u32, number: u32) -> Result<(), NoMemory>
+fn push_command_at(
+    text: &mut String,
+    scripts: &[Script],
+    client: u32,
+    number: u32,
+) -> Result<(), NoMemory>
     ensures { OnOk result (string_bytes text.new ≡ string_bytes text.old ++ spaced (words_at scripts.now client number)) }
 {
     match line_of(scripts, client, number) {
@@ -47,7 +52,11 @@ fn push_said(text: &mut String, scripts: &[Script], event: &Event) -> Result<(),
 }
 
 /// The line of an event.
-pub(crate) fn push_event(text: &mut String, scripts: &[Script], event: &Event) -> Result<(), NoMemory>
+pub(crate) fn push_event(
+    text: &mut String,
+    scripts: &[Script],
+    event: &Event,
+) -> Result<(), NoMemory>
     ensures { OnOk result (string_bytes text.new ≡ string_bytes text.old ++ event_line scripts.now event.now) }
 {
     write!(text, "{} {}", event.client, event.line)?;
