@@ -61,6 +61,7 @@ numbers_long : (tx low named : ℕ) → length (numbers tx low named) ≡ 24
 numbers_long tx low named = refl
 
 spelling_long : (r : Record) → length (spelling r) ≡ 25 + length (payload r.action)
+unfolding spelling
 spelling_long r = ap suc (length-append (numbers r.tx r.lowest r.named) (payload r.action)) ∙ omega arith
 
 three_long : (x y z : List ℕ) → length (x ++ y ++ z) ≡ length x + length y + length z

@@ -33,6 +33,32 @@ const EMPTY_RUN: [u8; 107] = [
     0,
 ];
 
+// After calls 3 and 4, 5 and 6, .. the file is the front of `SEGMENT` of this length, with these two bytes still 0.
+const STAGES: [(usize, usize, usize); 9] = [
+    (1, 0, 0),
+    (23, 0, 22),
+    (23, 22, 22),
+    (65, 22, 64),
+    (65, 64, 64),
+    (114, 64, 113),
+    (114, 113, 113),
+    (156, 113, 155),
+    (156, 155, 155),
+];
+
+// Calls 3, 5, .. write from the first to the second of these offsets, and the call behind each syncs the file.
+const WRITTEN: [(usize, usize); 9] = [
+    (0, 1),
+    (1, 23),
+    (0, 1),
+    (23, 65),
+    (22, 23),
+    (65, 114),
+    (64, 65),
+    (114, 156),
+    (113, 114),
+];
+
 // What a run left.
 #[derive(Drop)]
 struct Left {
@@ -123,8 +149,9 @@ impl Left {
         }
     }
 
-    // Each crash leaves files that show so many puts, at least and at most.
-    fn shows(&self, least: u32, most: u32) -> Result<bool, NoMemory> {
+    // Each crash leaves the files that the disk model gives after so many calls, and they show so many puts, at least
+    // and at most.
+    fn shows(&self, alloc: Global, calls: u64, least: u32, most: u32) -> Result<bool, NoMemory> {
         for choice in [
             Choice::Keep,
             Choice::Lose,
@@ -133,12 +160,67 @@ impl Left {
             Choice::Fill(7),
         ] {
             let left = self.disk.crash(choice)?;
+            let expected = left_after(alloc, calls, choice)?;
+            if !is_file(left.files(), &expected) {
+                return Ok(false);
+            }
             match puts_shown(left.files()) {
                 Some(puts) if least <= puts && puts <= most => {}
                 _ => return Ok(false),
             }
         }
         Ok(true)
+    }
+}
+
+// There is this one file with the number 1, or none.
+fn is_file(files: &[(u64, Vec<u8>)], expected: &Option<Vec<u8>>) -> bool {
+    match (files, expected) {
+        ([], None) => true,
+        ([file], Some(bytes)) => file.0 == 1 && file.1.as_slice() == bytes.as_slice(),
+        _ => false,
+    }
+}
+
+fn set(bytes: &mut [u8], at: usize, byte: u8) {
+    if at < bytes.len() {
+        bytes[at] = byte;
+    }
+}
+
+// The file as it reads after so many calls.
+fn file_after(alloc: Global, calls: u64) -> Result<Option<Vec<u8>>, NoMemory> {
+    if calls < 2 {
+        return Ok(None);
+    }
+    let stage = (calls.saturating_sub(3) / 2) as usize;
+    let (Some((len, first, second)), true) = (STAGES.get(stage), calls > 2) else {
+        return Ok(Some(Vec::new(alloc)));
+    };
+    let mut bytes = SEGMENT.get(..*len).unwrap_or(&[]).to_vec(alloc)?;
+    set(&mut bytes, *first, 0);
+    set(&mut bytes, *second, 0);
+    Ok(Some(bytes))
+}
+
+// What a crash leaves after so many calls: by the disk model all that is pending was done, or nothing, or each pending
+// byte is this one.
+fn left_after(alloc: Global, calls: u64, choice: Choice) -> Result<Option<Vec<u8>>, NoMemory> {
+    match choice {
+        Choice::Keep => file_after(alloc, calls),
+        Choice::Lose => file_after(alloc, if calls < 4 { 0 } else { calls - calls % 2 }),
+        Choice::Fill(byte) => {
+            let mut file = file_after(alloc, calls)?;
+            let pending = WRITTEN.get((calls.saturating_sub(3) / 2) as usize);
+            if let (Some(bytes), Some((from, to))) = (&mut file, pending) {
+                if calls > 2 && calls % 2 == 1 {
+                    for at in *from..*to {
+                        set(bytes, at, byte);
+                    }
+                }
+            }
+            Ok(file)
+        }
     }
 }
 
@@ -181,14 +263,14 @@ fn text_after(calls: u64) -> &'static [u8] {
 }
 
 // The run ends as one whose disk stopped after so many calls.
-fn is_stopped_after(left: &Left, calls: u64) -> Result<bool, NoMemory> {
+fn is_stopped_after(alloc: Global, left: &Left, calls: u64) -> Result<bool, NoMemory> {
     let status = if calls < 20 { 3 } else { 0 };
     let (least, most) = match calls {
         0..=14 => (0, 0),
         15 => (0, 1),
         _ => (1, 1),
     };
-    Ok(left.is(status, text_after(calls)) && left.shows(least, most)?)
+    Ok(left.is(status, text_after(calls)) && left.shows(alloc, calls, least, most)?)
 }
 
 #[test]
@@ -213,7 +295,7 @@ fn a_stop_or_a_fault_at_each_call_keeps_what_was_acknowledged(rt: HostRuntime) -
             stop_after: Some(calls),
         };
         let left = run(&rt, alloc, b"put m k v\nget m k\n", stop)?;
-        assert!(rt; is_stopped_after(&left, calls)?);
+        assert!(rt; is_stopped_after(alloc, &left, calls)?);
     }
     for calls in 0..20u64 {
         let mut failing = Vec::new(alloc);
@@ -223,7 +305,7 @@ fn a_stop_or_a_fault_at_each_call_keeps_what_was_acknowledged(rt: HostRuntime) -
             stop_after: None,
         };
         let left = run(&rt, alloc, b"put m k v\nget m k\n", fault)?;
-        assert!(rt; is_stopped_after(&left, calls)?);
+        assert!(rt; is_stopped_after(alloc, &left, calls)?);
     }
     Ok(())
 }
