@@ -1,5 +1,5 @@
 -- How what single calls leave of segment 1 joins over a run of calls.
-use Rattle.std.proofs.Common.{◌≡◌, ◌≢◌, inl, ℕ, List, [], ◌++◌, length, None, Result, Ok, Err, sym, ◌∙◌, ap, subst, arith, append_assoc}
+use Rattle.std.proofs.Common.{◌≡◌, ◌+◌, ◌≢◌, inl, ℕ, List, [], ◌++◌, length, None, Result, Ok, Err, sym, ◌∙◌, ap, subst, arith, append_assoc}
 use Rattle.std.specs.Prelude.{OnOk}
 use Rattle.std.specs.Result.{result_err}
 use Rattle.std.proofs.lemmas.List.{append-nil}
@@ -41,6 +41,11 @@ module _ {D : Type 0} (moment : D → ℕ) (left_since : D → ℕ → Image →
   known_join old mid new commits more acks first second extends had has =
       all_known old mid new commits more first second extends had (λ c left. known_acked more acks (get c 1) (has c left))
 
+-- what a call ensures in two clauses
+pub on_ok_both : {V E : Type 0} (P Q : Type 0) (r : Result V E) → OnOk r P → OnOk r Q → OnOk r (P × Q)
+on_ok_both P Q (Ok v) p q = (p, q)
+on_ok_both P Q (Err e) p q = p
+
 -- a run that wasn't stopped
 pub not_stopped : {V E P : Type 0} (r : Result V E) → result_err r ≡ None → OnOk r P → P
 not_stopped (Ok v) none p = p
@@ -65,4 +70,4 @@ module _ (start : Image → Type 0) (fresh : (c : Image) → start c → c ≡ e
     image_acked acks (n, j, lsns, counted, shows) = (n, j, lsns, counted, image_shows n j shows)
 
     pub image_all : KnownAll commits (get c 1) → ShowsAll new c
-    image_all (n, shows) = (n, subst (λ (j : ℕ). ShowsPuts (entries c) new n j) (ap length same) (image_shows n (length commits) shows))
+    image_all shows = subst (λ (j : ℕ). ShowsPuts (entries c) new (j + 2) j) (ap length same) (image_shows (length commits + 2) (length commits) shows)

@@ -4,6 +4,7 @@ use Rattle.std.specs.Prelude.{nat_lt, nat_le, nat_eq, ◌&&◌}
 use Rattle.std.proofs.lemmas.Bool.{and_parts, and_from, eq-eqb, leb-true, le-leb, lt-ltb}
 use Rattle.std.proofs.lemmas.List.{append-nil}
 use Rattle.std.proofs.lemmas.Grind.{flat_map-append}
+use Rattle.std.proofs.lemmas.List.Folds.{list_all-append}
 use Rattle.std.proofs.lemmas.List.Sums.{fold-append}
 use Rattle.std.specs.FinMap.Entries.{put}
 use Rattle.std.specs.Int.{w8, w16, w32, w64, to_be_bytes}
@@ -16,7 +17,7 @@ use Rattle.frs_frame.specs.Spelling.{spelling, numbers, payload, word_bytes}
 use Rattle.frs_history.specs.Machine.{Changes}
 use Rattle.frs_segment.specs.Segments.{body, chunk_bytes, chunks_bytes, is_chunk, are_chunks}
 use Rattle.frs_engine.specs.Log.{chunk_of}
-use Rattle.frs_engine.specs.Promise.{puts, puts_by}
+use Rattle.frs_engine.specs.Promise.{puts, puts_by, is_put_or_mark}
 use Rattle.frs_engine.specs.Session.{drawn, drawn_put, singles, front, IsLog}
 use Rattle.frs_engine.proofs.Tables.{lsns_below, lsns_wider, lsns-put, lsn_below, least-le, least-pos}
 
@@ -122,9 +123,9 @@ module _ (rs : List Record) (t : Table Held) (n gate_at : ℕ) (log : IsLog rs t
   pub front-next : (r : Record) → front (rs ++ r ∷ []) ≡ front rs ++ 1 ∷ chunk_of n (spelling r)
   front-next r = front-push rs r ∙ ap (λ (k : ℕ). front rs ++ 1 ∷ chunk_of k (spelling r)) (omega (arith, log.count))
 
-  pub log-push : (r : Record) (u : Table Held) → is_lawful (settled t n) r ≡ true → after_record (settled t n) r ≡ settled u (n + 1) → lsns_below (n + 1) u ≡ true → length (spelling r) ≤ 65883
+  pub log-push : (r : Record) (u : Table Held) → is_lawful (settled t n) r ≡ true → after_record (settled t n) r ≡ settled u (n + 1) → lsns_below (n + 1) u ≡ true → length (spelling r) ≤ 65883 → is_put_or_mark r.action ≡ true
       → IsLog (rs ++ r ∷ []) u (n + 1) (gate_at + (length (spelling r) + 17))
-  log-push r u one after lsns long =
+  log-push r u one after lsns long kind =
       let lawful : is_lawful (state_after (settled [] 1) rs) r ≡ true = subst (λ (s : LogState). is_lawful s r ≡ true) (sym log.state) one in
       let may : allowed n r ≡ true = (and_parts (allowed n r) _ (and_parts (allowed n r && nat_eq r.lowest (lowest (settled t n))) _ one).0).0 in
       let here : allowed (1 + length rs) r ≡ true = subst (λ (k : ℕ). allowed k r ≡ true) (omega (arith, log.count)) may in
@@ -132,6 +133,7 @@ module _ (rs : List Record) (t : Table Held) (n gate_at : ℕ) (log : IsLog rs t
       let chunk : is_chunk (1 + length rs) (r ∷ []) ≡ true = and_from _ _ (and_from _ _ refl short) (and_from _ _ here refl) in
       record {
         lawful = lawful-push (settled [] 1) rs r log.lawful lawful;
+        kinds = list_all-append (λ (x : Record). is_put_or_mark x.action) rs (r ∷ []) ∙ and_from _ _ log.kinds (and_from _ _ kind refl);
         state = fold-append after_record (settled [] 1) rs (r ∷ []) ∙ ap (λ (s : LogState). after_record s r) log.state ∙ after;
         count = omega (arith, log.count, length-append rs (r ∷ []));
         chunks = chunks-push 1 rs r log.chunks chunk;
@@ -146,11 +148,11 @@ module _ (rs : List Record) (t : Table Held) (n gate_at : ℕ) (log : IsLog rs t
       → IsLog (rs ++ drawn_put t n id key value ∷ []) (put place_cmp (id, key) (record { value = value; lsn = n }) t) (n + 1) (gate_at + (length (spelling (drawn_put t n id key value)) + 17))
   log-put id key value words =
       log-push (drawn_put t n id key value) (put place_cmp (id, key) (record { value = value; lsn = n }) t)
-      (put_lawful t n pos log.lsns id key value words) refl (lsns-put (id, key) value n t pos log.lsns) (put_long t n id key value words)
+      (put_lawful t n pos log.lsns id key value words) refl (lsns-put (id, key) value n t pos log.lsns) (put_long t n id key value words) refl
 
   pub log-mark : IsLog (rs ++ drawn t n 0 action.Mark ∷ []) t (n + 1) (gate_at + (length (spelling (drawn t n 0 action.Mark)) + 17))
-  log-mark = log-push (drawn t n 0 action.Mark) t (mark_lawful t n pos log.lsns) refl (lsns_wider t n (n + 1) (omega arith) log.lsns) (mark_long t n)
+  log-mark = log-push (drawn t n 0 action.Mark) t (mark_lawful t n pos log.lsns) refl (lsns_wider t n (n + 1) (omega arith) log.lsns) (mark_long t n) refl
 
 -- the log of an empty segment
 pub log_start : IsLog [] [] 1 22
-log_start = record { lawful = refl; state = refl; count = refl; chunks = refl; gate = refl; lsns = refl }
+log_start = record { lawful = refl; kinds = refl; state = refl; count = refl; chunks = refl; gate = refl; lsns = refl }

@@ -28,7 +28,7 @@ use Rattle.frs_engine.specs.declared.session.Run.{Run}
 use Rattle.frs_engine.specs.Entries.{table}
 use Rattle.frs_engine.specs.Log.{IsStage, IsAtGate, chunk_of}
 use Rattle.frs_engine.specs.Promise.{commits_of_run, owed_acks, puts, puts_by, Tells, ShowsPuts, Completes, is_whole_in}
-use Rattle.frs_engine.specs.Session.{drawn, drawn_put, front, state_at, answer, IsLog, IsAnswered, IsReady, IsOpen, IsToldAlike, IsFresh, commits_so_far, Extends, as_files, KnownAcked, KnownAll}
+use Rattle.frs_engine.specs.Session.{drawn, drawn_put, front, state_at, answer, IsLog, IsAnswered, IsReady, HasOneMark, IsToldAlike, IsFresh, commits_so_far, Extends, as_files, KnownAcked, KnownAll}
 use Rattle.frs_engine.proofs.Answering.{put_run, put_commits, put_owed, get_run, get_commits, get_owed, acks_within}
 use Rattle.frs_engine.proofs.Logging.{log_start, front-next, puts-push, gate_after, log-put, log-mark, put_long, mark_long}
 use Rattle.frs_engine.proofs.Showing.{stage_shows}
@@ -159,20 +159,20 @@ module _ (rs : List Record) (old new : Run) (a : IsAnswered rs old) (n : ℕ) (i
   pub put_after : commits_so_far new ≡ each_alone (puts (rs ++ drawn_put (table old.entries.items) old.next id key value ∷ []))
   put_after = put_before ∙ sym (map-append (λ (c : Change (List ℕ)). c ∷ []) (puts rs) (Set id key value ∷ [])) ∙ ap each_alone (sym puts_next)
 
-  put_acks : IsOpen old → owed_acks new.script.now new.events.items ≡ old.acks.items ++ record { client = 1; line = n; lsn = old.next } ∷ []
-  put_acks open_ =
+  put_acks : HasOneMark old → owed_acks new.script.now new.events.items ≡ old.acks.items ++ record { client = 1; line = n; lsn = old.next } ∷ []
+  put_acks marks =
       ap (λ (s : List Line). owed_acks s new.events.items) (ap (λ s. s.now) script)
       ∙ ap (owed_acks old.script.now) events
       ∙ put_owed old.script.now old.events.items (plain (table old.entries.items)) old.done n a.machine id key value next
       ∙ ap (λ (acks : List Ack). acks ++ record { client = 1; line = n; lsn = 2 + length acks } ∷ []) (sym a.acks)
-      ∙ ap (λ (k : ℕ). old.acks.items ++ record { client = 1; line = n; lsn = k } ∷ []) (omega (arith, open_))
+      ∙ ap (λ (k : ℕ). old.acks.items ++ record { client = 1; line = n; lsn = k } ∷ []) (omega (arith, marks))
 
   -- the put that isn't durable yet
-  pub put_tells : IsOpen old → new.acks.items ≡ old.acks.items → Tells new.script.now new.events.items new.acks.items
-  put_tells open_ acks = record {
+  pub put_tells : HasOneMark old → new.acks.items ≡ old.acks.items → Tells new.script.now new.events.items new.acks.items
+  put_tells marks acks = record {
     legal = ap is_some put_machine;
     rest = record { client = 1; line = n; lsn = old.next } ∷ [];
-    told = ap (λ (l : List Ack). l ++ record { client = 1; line = n; lsn = old.next } ∷ []) acks ∙ sym (put_acks open_);
+    told = ap (λ (l : List Ack). l ++ record { client = 1; line = n; lsn = old.next } ∷ []) acks ∙ sym (put_acks marks);
     but_last = omega arith;
   }
 
@@ -180,13 +180,13 @@ module _ (rs : List Record) (old new : Run) (a : IsAnswered rs old) (n : ℕ) (i
       (old.gate_at + (length (spelling (drawn_put (table old.entries.items) old.next id key value)) + 17))
   put_log words = log-put rs (table old.entries.items) old.next old.gate_at a.log id key value words
 
-  pub put_answered : IsOpen old → has_words (action.Put id key value) ≡ true → old.next < 2 ^ 40
+  pub put_answered : HasOneMark old → has_words (action.Put id key value) ≡ true → old.next < 2 ^ 40
       → table new.entries.items ≡ put place_cmp (id, key) (record { value = value; lsn = old.next }) (table old.entries.items)
       → new.acks.items ≡ old.acks.items ++ record { client = 1; line = n; lsn = old.next } ∷ []
       → new.done ≡ old.done + 1 → new.next ≡ old.next + 1
       → new.gate_at ≡ old.gate_at + (length (spelling (drawn_put (table old.entries.items) old.next id key value)) + 17)
       → IsAnswered (rs ++ drawn_put (table old.entries.items) old.next id key value ∷ []) new
-  put_answered open_ words room entries acks done next_is gate =
+  put_answered marks words room entries acks done next_is gate =
       let r : Record = drawn_put (table old.entries.items) old.next id key value in
       let held : Held = record { value = value; lsn = old.next } in
       let long : length (rs ++ r ∷ []) ≡ length rs + 1 = length-append rs (r ∷ []) in
@@ -197,7 +197,7 @@ module _ (rs : List Record) (old new : Run) (a : IsAnswered rs old) (n : ℕ) (i
             ∙ ap (λ (t : Table Held). Some (state_at (plain t) (old.done + 1))) (sym entries)
             ∙ ap (λ (k : ℕ). Some (state_at (plain (table new.entries.items)) k)) (sym done);
         commits = put_after;
-        acks = acks ∙ sym (put_acks open_);
+        acks = acks ∙ sym (put_acks marks);
         within = ap (list_all (λ (x : Ack). nat_le x.lsn (length (rs ++ r ∷ [])))) acks
             ∙ list_all-append (λ (x : Ack). nat_le x.lsn (length (rs ++ r ∷ []))) old.acks.items (record { client = 1; line = n; lsn = old.next } ∷ [])
             ∙ and_from _ _ (acks_within (length rs) (length (rs ++ r ∷ [])) old.acks.items (omega (arith, long)) a.within) (and_from _ _ last refl);
@@ -280,13 +280,13 @@ answered_completes rs r a done =
     }
 
 module _ {D : Type 0} (tells : D → Bool) (reads : D → Image) (may_leave : D → Image → Type 0) (disk : D) (r : Run) (ready : IsReady tells reads may_leave disk r) (told : IsTrue (tells disk)) where
-  pub ready_all : (c : Image) → may_leave disk c → KnownAll (commits_so_far r) (get c 1)
-  ready_all c left =
+  pub ready_all : r.next ≡ length r.acks.items + 3 → (c : Image) → may_leave disk c → KnownAll (commits_so_far r) (get c 1)
+  ready_all marks c left =
       let rs : List Record = ready.records in
       let a = ready.answered in
-      let all : length (puts rs) ≡ length (commits_so_far r) = sym (ap length a.commits ∙ length-map (puts rs) (λ (x : Change (List ℕ)). x ∷ [])) in (
-        length rs,
-        subst (ShowsPuts (as_files (get c 1)) (commits_so_far r) (length rs)) all
-            (stage_shows rs (table r.entries.items) r.next r.gate_at a.log a.short (get c 1) (commits_so_far r) [] (a.commits ∙ sym (append-nil (each_alone (puts rs))))
-            (ready_stage tells reads may_leave disk r ready told c left)),
-      )
+      let all : length (puts rs) ≡ length (commits_so_far r) = sym (ap length a.commits ∙ length-map (puts rs) (λ (x : Change (List ℕ)). x ∷ [])) in
+      let count : length rs ≡ length (commits_so_far r) + 2 = omega (arith, a.log.count, a.counted, all, marks) in
+      subst (λ (n : ℕ). ShowsPuts (as_files (get c 1)) (commits_so_far r) n (length (commits_so_far r))) count
+      (subst (ShowsPuts (as_files (get c 1)) (commits_so_far r) (length rs)) all
+      (stage_shows rs (table r.entries.items) r.next r.gate_at a.log a.short (get c 1) (commits_so_far r) [] (a.commits ∙ sym (append-nil (each_alone (puts rs))))
+      (ready_stage tells reads may_leave disk r ready told c left)))

@@ -19,7 +19,7 @@ use Rattle.frs_history.specs.Machine.{Changes}
 use Rattle.frs_segment.specs.Front.{IsHalfMade, IsInTheMaking, header}
 use Rattle.frs_segment.specs.Segments.{File, IsSegment, records_of, all_records, open_files, is_open, chunks_bytes}
 use Rattle.frs_engine.specs.Log.{IsStage}
-use Rattle.frs_engine.specs.Promise.{puts, ShowsPuts}
+use Rattle.frs_engine.specs.Promise.{puts, is_put_or_mark, ShowsPuts}
 use Rattle.frs_engine.specs.Session.{singles, segment_of, front, IsLog, Extends, as_files, Known, KnownAcked}
 use Rattle.frs_engine.proofs.Stages.{shut}
 
@@ -34,6 +34,7 @@ shows_more files commits new n j more shows = record {
   follow = shows.follow;
   newest = shows.newest;
   lawful = shows.lawful;
+  kinds = shows.kinds;
   count = shows.count;
   known = omega (arith, shows.known, ap length more.1, length-append commits more.0);
   maps = shows.maps ∙ ap (λ (cs : List Changes). fold changed_by [] cs) (sym (take-append-le j commits more.0 shows.known)) ∙ ap (λ (cs : List Changes). After [] cs j) (sym more.1);
@@ -64,6 +65,7 @@ nothing files commits one number none = record {
   follow = refl;
   newest = refl;
   lawful = refl;
+  kinds = refl;
   count = refl;
   known = omega arith;
   maps = refl;
@@ -120,6 +122,7 @@ module _ (rs : List Record) (t : Table Held) (n gate_at : ℕ) (log : IsLog rs t
     follow = refl;
     newest = ap length (all_of rs);
     lawful = subst (Lawful [] 1) (sym (all_of rs)) log.lawful;
+    kinds = ap (list_all (λ (r : Record). is_put_or_mark r.action)) (all_of rs) ∙ log.kinds;
     count = ap (λ (l : List Record). length (puts l)) (all_of rs);
     known = omega (arith, ap length is, length-append (each_alone (puts rs)) more, length-map (puts rs) (λ (c : Change (List ℕ)). c ∷ []));
     maps = ap (λ (l : List Record). changed_by [] (puts l)) (all_of rs) ∙ sym (each_after [] (puts rs) more) ∙ ap (λ (cs : List Changes). After [] cs (length (puts rs))) (sym is);

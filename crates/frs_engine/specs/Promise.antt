@@ -68,8 +68,13 @@ puts_by other = []
 abbrev pub puts : List Record → Changes
 puts rs = flat_map (λ (r : Record). puts_by r.action) rs
 
+abbrev pub is_put_or_mark : Action → Bool
+is_put_or_mark (action.Put id key value) = true
+is_put_or_mark action.Mark = true
+is_put_or_mark other = false
+
 -- There is at most one file, which has the number 1. The open files are segments that follow each other from LSN 1 on. Their newest LSN is n,
--- their records are lawful from an empty store on, and their j put records, applied oldest first, are the maps after
+-- their records are puts and marks, lawful from an empty store on, and their j put records, applied oldest first, are the maps after
 -- the first j commits, of which there are so many. A half-made file shows no record.
 pub record ShowsPuts (files : List File) (commits : List Changes) (n j : ℕ) : Type 0 where
   pub one : length files ≤ 1
@@ -79,6 +84,7 @@ pub record ShowsPuts (files : List File) (commits : List Changes) (n j : ℕ) : 
   pub follow : IsTrue (follow_from 1 segments)
   pub newest : length (all_records segments) ≡ n
   pub lawful : Lawful [] 1 (all_records segments)
+  pub kinds : IsTrue (list_all (λ (r : Record). is_put_or_mark r.action) (all_records segments))
   pub count : length (puts (all_records segments)) ≡ j
   pub known : j ≤ length commits
   pub maps : changed_by [] (puts (all_records segments)) ≡ After [] commits j
@@ -91,9 +97,9 @@ Shows commits image = (n : ℕ) × (j : ℕ) × ShowsPuts (entries image) commit
 abbrev pub ShowsAcked : List Changes → List Ack → Image → Type 0
 ShowsAcked commits acks image = (n : ℕ) × (j : ℕ) × IsTrue (list_all (λ (a : Ack). nat_le a.lsn n) acks) × (length acks ≤ j) × ShowsPuts (entries image) commits n j
 
--- the same, with every commit
+-- the same, with every commit, and with two marks beside its put records: those of the opening and of the close
 abbrev pub ShowsAll : List Changes → Image → Type 0
-ShowsAll commits image = (n : ℕ) × ShowsPuts (entries image) commits n (length commits)
+ShowsAll commits image = ShowsPuts (entries image) commits (length commits + 2) (length commits)
 
 -- What a crash leaves: `left` are the images of a crash at some moment since the start, `now` those of one at this moment.
 pub record Survives (commits : List Changes) (acks : List Ack) (left now : Image → Type 0) : Type 0 where

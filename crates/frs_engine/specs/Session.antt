@@ -21,7 +21,7 @@ use Rattle.frs_types.specs.Locks.{nobody}
 use Rattle.frs_segment.specs.Segments.{File, Segment, segment_spelling, are_chunks}
 use Rattle.frs_engine.specs.declared.session.Run.{Run}
 use Rattle.frs_engine.specs.Entries.{table}
-use Rattle.frs_engine.specs.Promise.{commits_of_run, owed_acks, puts, ShowsPuts}
+use Rattle.frs_engine.specs.Promise.{commits_of_run, owed_acks, puts, is_put_or_mark, ShowsPuts}
 
 -- ---- the log
 
@@ -47,6 +47,7 @@ front rs = segment_spelling (segment_of rs)
 -- The records are a lawful log from an empty store on, and these are its entries, its next LSN and where it ends.
 pub record IsLog (records : List Record) (entries : Table Held) (next gate_at : ℕ) : Type 0 where
   pub lawful : Lawful [] 1 records
+  pub kinds : IsTrue (list_all (λ (r : Record). is_put_or_mark r.action) records)
   pub state : state_after (settled [] 1) records ≡ settled entries next
   pub count : next ≡ length records + 1
   pub chunks : IsTrue (are_chunks 1 (singles records))
@@ -84,8 +85,8 @@ pub record IsReady {D : Type 0} (tells : D → Bool) (reads : D → Image) (may_
   pub durable : IsTrue (tells disk) → IsSynced reads may_leave disk 1
 
 -- but for one mark each record is a put, and the next put draws the next LSN
-abbrev pub IsOpen : Run → Type 0
-IsOpen r = r.next ≡ length r.acks.items + 2
+abbrev pub HasOneMark : Run → Type 0
+HasOneMark r = r.next ≡ length r.acks.items + 2
 
 -- the numbers of a run that is far from their types' ends
 pub record HasRoom (r : Run) : Type 0 where
@@ -127,9 +128,9 @@ Known commits file = (n : ℕ) × (j : ℕ) × ShowsPuts (as_files file) commits
 abbrev pub KnownAcked : List Changes → List Ack → Option (List ℕ) → Type 0
 KnownAcked commits acks file = (n : ℕ) × (j : ℕ) × IsTrue (list_all (λ (a : Ack). nat_le a.lsn n) acks) × (length acks ≤ j) × ShowsPuts (as_files file) commits n j
 
--- every commit
+-- every commit, and the two marks
 abbrev pub KnownAll : List Changes → Option (List ℕ) → Type 0
-KnownAll commits file = (n : ℕ) × ShowsPuts (as_files file) commits n (length commits)
+KnownAll commits file = ShowsPuts (as_files file) commits (length commits + 2) (length commits)
 
 -- ---- why a run stopped
 

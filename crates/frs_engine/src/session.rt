@@ -16,7 +16,7 @@ ghost use Rattle.frs_history.specs.Scripts.{is_script};
 ghost use Rattle.frs_engine.specs.Entries.{table};
 ghost use Rattle.frs_engine.specs.Log.{chunk_of};
 ghost use Rattle.frs_engine.specs.Promise.{has_puts_and_gets, commits_of_run, Tells, Survives, ShowsAll, Completes};
-ghost use Rattle.frs_engine.specs.Session.{drawn, drawn_put, answer, IsAnswered, IsReady, IsOpen, HasRoom, IsToldAlike, IsFresh, commits_so_far, Extends, Known, KnownAcked, KnownAll, StopHasCause};
+ghost use Rattle.frs_engine.specs.Session.{drawn, drawn_put, answer, IsAnswered, IsReady, HasOneMark, HasRoom, IsToldAlike, IsFresh, commits_so_far, Extends, Known, KnownAcked, KnownAll, StopHasCause};
 
 use crate::entries::{find_entry, lowest_of, set_entry};
 use crate::log::{append_chunk, chunk_body};
@@ -89,6 +89,7 @@ impl<'a> Run<'a> {
             ≡ chunk_of self.now.next (spelling (drawn_put (table self.now.entries.items) self.now.next id.now key.now value.now)) ++ 0 ∷ []) }
         ensures words { IsTrue (has_words (action.Put id.now key.now value.now)) }
     {
+        // Their types keep the words within the limits of a record.
         prove!(id.bytes().len() <= 64 && key.bytes().len() <= 255);
         prove!(value.bytes().len() <= 65_535);
         let named = match find_entry(&self.entries, id, key) {
@@ -166,11 +167,11 @@ impl<'a> Run<'a> {
         value: &Value,
     ) -> Result<(), Fault>
         requires ready { IsReady D.tells D.reads D.may_leave disk.old self.old }
-        requires open { IsOpen self.old }
+        requires marks { HasOneMark self.old }
         requires room { HasRoom self.old }
         requires next { slice_get self.old.script.now self.old.done ≡ Some (record { number = line; command = command.Put id.now key.now value.now }) }
         ensures ready { OnOk result (IsReady D.tells D.reads D.may_leave disk.new self.new) }
-        ensures open { OnOk result (IsOpen self.new) }
+        ensures marks { OnOk result (HasOneMark self.new) }
         ensures drawn { OnOk result (self.new.next ≤ self.old.next + 1) }
         ensures done { OnOk result (self.new.done ≡ self.old.done + 1) }
         ensures script { self.new.script ≡ self.old.script }
@@ -246,12 +247,12 @@ impl<'a> Run<'a> {
     // Answers the next line.
     fn answer_next<D: Disk>(&mut self, alloc: Global, disk: &mut D) -> Result<(), Fault>
         requires ready { IsReady D.tells D.reads D.may_leave disk.old self.old }
-        requires open { IsOpen self.old }
+        requires marks { HasOneMark self.old }
         requires room { HasRoom self.old }
         requires next { self.old.done < length self.old.script.now }
         requires commands { IsTrue (has_puts_and_gets self.old.script.now) }
         ensures ready { OnOk result (IsReady D.tells D.reads D.may_leave disk.new self.new) }
-        ensures open { OnOk result (IsOpen self.new) }
+        ensures marks { OnOk result (HasOneMark self.new) }
         ensures drawn { OnOk result (self.new.next ≤ self.old.next + 1) }
         ensures done { OnOk result (self.new.done ≡ self.old.done + 1) }
         ensures script { self.new.script ≡ self.old.script }
@@ -281,10 +282,11 @@ impl<'a> Run<'a> {
     fn answer_all<D: Disk>(&mut self, alloc: Global, disk: &mut D) -> Result<(), Fault>
         requires ready { IsReady D.tells D.reads D.may_leave disk.old self.old }
         requires start { self.old.done ≡ 0 }
-        requires open { (self.old.next ≡ 2) × (self.old.acks.items ≡ []) }
+        requires marks { (self.old.next ≡ 2) × (self.old.acks.items ≡ []) }
         requires short { length self.old.script.now < 2 ^ 32 }
         requires commands { IsTrue (has_puts_and_gets self.old.script.now) }
         ensures ready { OnOk result (IsReady D.tells D.reads D.may_leave disk.new self.new) }
+        ensures marks { OnOk result (HasOneMark self.new) }
         ensures room { OnOk result (HasRoom self.new) }
         ensures done { OnOk result (self.new.done ≡ length self.new.script.now) }
         ensures script { self.new.script ≡ self.old.script }

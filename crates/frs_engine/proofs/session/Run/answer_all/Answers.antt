@@ -13,8 +13,8 @@ loop-self-init g c =
     let d = g.D.Disk in
     record {
       ready = c.requires.ready;
-      unfinished = omega (arith, c.requires.open.0, ap length c.requires.open.1);
-      drawn = omega (arith, c.requires.open.0);
+      marks = omega (arith, c.requires.marks.0, ap length c.requires.marks.1);
+      drawn = omega (arith, c.requires.marks.0);
       done = omega arith;
       script = refl;
       extends = extends_none (commits_so_far c.args.self.now);
@@ -32,7 +32,7 @@ loop-self-preserved g c =
     let so_far = c.loop-self.invariant in
     record {
       ready = c.in_ok-answer_next.ensures.ready;
-      unfinished = c.in_ok-answer_next.ensures.open;
+      marks = c.in_ok-answer_next.ensures.marks;
       drawn = omega (arith, so_far.drawn, c.in_ok-answer_next.ensures.drawn, c.in_ok-answer_next.ensures.done);
       done =
           let lines : length c.answer_next.new.self.script.now ≡ length c.loop-self.self.script.now = ap (λ s. length s.now) c.answer_next.ensures.script in

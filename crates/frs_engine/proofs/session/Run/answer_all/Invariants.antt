@@ -1,7 +1,7 @@
 use Rattle.std.proofs.Common.{◌≡◌, ◌+◌, ◌-◌, ◌≤◌, length, IsTrue}
 use Rattle.std.specs.FinMap.{get}
 use Rattle.frs_disk.specs.Disk.{AgreesElsewhere, Passes, Within}
-use Rattle.frs_engine.specs.Session.{IsReady, IsOpen, commits_so_far, Extends, Known}
+use Rattle.frs_engine.specs.Session.{IsReady, HasOneMark, commits_so_far, Extends, Known}
 use Rattle.frs_engine.proofs.session.Run.answer_all.Given as goal
 
 abbrev pub invariant-loop-self : goal.invariant-loop-self
@@ -9,7 +9,7 @@ invariant-loop-self g l =
     let d = g.D.Disk in
     record {
       ready : IsReady d.tells d.reads d.may_leave l.disk l.self;
-      unfinished : IsOpen l.self;
+      marks : HasOneMark l.self;
       drawn : l.self.next ≤ l.self.done + 2;
       done : l.self.done ≤ length l.self.script.now;
       script : l.self.script ≡ l.fn.self.script;

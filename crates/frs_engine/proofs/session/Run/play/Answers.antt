@@ -1,4 +1,4 @@
-use Rattle.std.proofs.Common.{◌≡◌, ◌∙◌, List, [], ap, sym, subst, length, IsTrue}
+use Rattle.std.proofs.Common.{◌≡◌, ◌∙◌, List, [], ap, sym, subst, length, arith, IsTrue}
 use Rattle.std.proofs.lemmas.Result.{on_ok_weaker}
 use Rattle.std.specs.FinMap.{get}
 use Rattle.frs_disk.specs.Disk.{Passes, Within, AgreesElsewhere}
@@ -6,7 +6,7 @@ use Rattle.frs_disk.proofs.Moments.{agrees_join, passes_join}
 use Rattle.frs_history.specs.declared.event.Ack.{Ack}
 use Rattle.frs_history.specs.Machine.{Changes}
 use Rattle.frs_engine.specs.Session.{commits_so_far, Known, KnownAcked}
-use Rattle.frs_engine.proofs.Joining.{all_known, known_join, extends_same}
+use Rattle.frs_engine.proofs.Joining.{on_ok_both, all_known, known_join, extends_same}
 use Rattle.frs_engine.proofs.Running.{alike_commits, fresh_commits, answered_completes, ready_all}
 use Rattle.frs_engine.proofs.Showing.{known_acked}
 use Rattle.frs_engine.proofs.session.Run.play.Goals as goal
@@ -66,8 +66,10 @@ returns-clause-complete g c =
 pub returns-clause-all : goal.returns-clause-all
 returns-clause-all g c =
     let d = g.D.Disk in
-    on_ok_weaker c.mark.result (λ ready told x left. ready_all d.tells d.reads d.may_leave c.mark.new.disk c.mark.new.self ready
-    (subst IsTrue (sym (c.mark.ensures.told ∙ c.answer_all.ensures.told ∙ c.open.ensures.told)) told) x left) c.mark.ensures.ready
+    on_ok_weaker c.mark.result (λ marked told x left. ready_all d.tells d.reads d.may_leave c.mark.new.disk c.mark.new.self marked.0
+    (subst IsTrue (sym (c.mark.ensures.told ∙ c.answer_all.ensures.told ∙ c.open.ensures.told)) told)
+    (omega (arith, marked.1, c.in_ok-answer_all.ensures.marks, ap length c.mark.ensures.kept.acks)) x left)
+    (on_ok_both _ _ c.mark.result c.mark.ensures.ready c.mark.ensures.drawn)
 
 pub returns-clause-elsewhere : goal.returns-clause-elsewhere
 returns-clause-elsewhere g c =

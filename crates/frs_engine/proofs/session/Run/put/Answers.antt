@@ -32,7 +32,7 @@ append_chunk-requires-clause-gate g c told =
 pub returns-in_err-append_chunk-clause-tells : goal.returns-in_err-append_chunk-clause-tells
 returns-in_err-append_chunk-clause-tells g c =
     put_tells c.requires.ready.records c.args.self.now c.prepare_put.new.self c.requires.ready.answered c.args.line c.args.id.now c.args.key.now c.args.value.now c.requires.next c.prepare_put.ensures.script c.in-Ok.ensures.events
-    c.requires.open c.prepare_put.ensures.acks
+    c.requires.marks c.prepare_put.ensures.acks
 
 pub returns-in_err-append_chunk-clause-extends : goal.returns-in_err-append_chunk-clause-extends
 returns-in_err-append_chunk-clause-extends g c =
@@ -86,7 +86,7 @@ returns-clause-ready g c =
     record {
       records = ready.records ++ r ∷ [];
       answered = put_answered ready.records old _ ready.answered c.args.line c.args.id.now c.args.key.now c.args.value.now c.requires.next c.prepare_put.ensures.script c.in-Ok.ensures.events
-          c.requires.open c.prepare_put.ensures.words c.requires.room.next c.in-Ok.ensures.entries
+          c.requires.marks c.prepare_put.ensures.words c.requires.room.next c.in-Ok.ensures.entries
           (c.push_reserved.ensures.items ∙ ap (λ (l : List Ack). l ++ record { client = 1; line = c.args.line; lsn = mid.next } ∷ []) c.prepare_put.ensures.acks
           ∙ ap (λ (k : ℕ). old.acks.items ++ record { client = 1; line = c.args.line; lsn = k } ∷ []) c.prepare_put.ensures.next)
           (ap (λ (k : ℕ). k + 1) c.prepare_put.ensures.done) (ap (λ (k : ℕ). k + 1) c.prepare_put.ensures.next)
