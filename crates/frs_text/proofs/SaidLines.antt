@@ -1,14 +1,13 @@
 -- What a line says, told from what the reader has of it.
-use Rattle.std.proofs.Common.{◌≡◌, ℕ, Bool, true, false, List, Some, None, Option, ◌⊎◌, inl, inr, refl, sym, ap, ◌∙◌}
+use Rattle.std.proofs.Common.{◌≡◌, ℕ, Bool, true, false, List, Some, ◌⊎◌, inl, inr, refl, ◌∙◌}
 use Rattle.std.proofs.lemmas.Bool.{cases_Bool, cond-true, cond-false}
 use Rattle.frs_history.specs.declared.command.Command.{Command}
 use Rattle.frs_history.specs.declared.command.Command.TheVariants as command
 use Rattle.frs_history.specs.declared.command.Line.{Line}
 use Rattle.frs_history.specs.Scripts.{may_stand}
-use Rattle.frs_text.specs.Scripts.{Said, Allowed, is_long, is_past, is_inside, refusal, fault_of}
+use Rattle.frs_text.specs.Scripts.{Said, Allowed, is_long, is_inside, fault_of}
 use Rattle.frs_text.specs.Scripts.Said.{Nothing, Says, Wrong}
 use Rattle.frs_text.specs.Reading.{seen}
-use Rattle.frs_text.specs.declared.said.Reading.{Reading}
 use Rattle.frs_text.specs.declared.said.Reading.TheVariants as reading
 use Rattle.frs_text.specs.declared.script_fault.ScriptFault.TheVariants.{TooLong}
 

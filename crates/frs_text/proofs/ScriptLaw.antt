@@ -1,14 +1,14 @@
 -- What bytes read as is a script: its numbers rise, and its transactions begin before they end.
-use Rattle.std.proofs.Common.{◌≡◌, ℕ, ◌+◌, ◌<◌, ◌≤◌, Bool, true, false, ◌&&◌, cond, nat_lt, List, [], ◌∷◌, ◌++◌, Some, None, Ok, Err, Option, Result, inl, inr, refl, sym, subst, length, arith}
+use Rattle.std.proofs.Common.{◌≡◌, ℕ, ◌+◌, ◌<◌, ◌≤◌, Bool, true, false, ◌&&◌, nat_lt, List, [], ◌∷◌, ◌++◌, Some, None, Ok, Option, Result, inl, inr, refl, sym, subst, length, arith}
 use Rattle.std.specs.Prelude.{IsTrue}
 use Rattle.std.proofs.lemmas.List.{append-nil}
 use Rattle.std.specs.List.{fold}
 use Rattle.std.specs.Str.Lines.{lines}
-use Rattle.std.proofs.lemmas.Bool.{and_parts, and_from, cases_Bool, cond-true, cond-false, lt-ltb, ltb-true}
+use Rattle.std.proofs.lemmas.Bool.{and_parts, and_from, cases_Bool, cond-false, lt-ltb, ltb-true}
 use Rattle.frs_history.specs.declared.command.Command.{Command}
 use Rattle.frs_history.specs.declared.command.Line.{Line}
 use Rattle.frs_history.specs.Scripts.{rises_from, may_stand, inside_after, is_bracketed, is_script}
-use Rattle.frs_text.specs.Scripts.{Said, Allowed, is_long, is_past, is_inside, refusal, fault_of, line_of, said, unless, script_after, script_of}
+use Rattle.frs_text.specs.Scripts.{Said, Allowed, is_inside, refusal, fault_of, line_of, said, unless, script_after, script_of}
 use Rattle.frs_text.specs.Scripts.Said.{Nothing, Says, Wrong}
 use Rattle.frs_text.specs.declared.script_fault.ScriptFault.{ScriptFault}
 use Rattle.frs_text.specs.declared.script_fault.ScriptFault.TheVariants.{BadLine}

@@ -1,11 +1,11 @@
 -- The parts of a list between the elements that pass a test: the words of a line, and the lines of a file.
-use Rattle.std.proofs.Common.{◌≡◌, ◌≢◌, ℕ, zero, suc, ◌+◌, ◌-◌, ◌<◌, ◌≤◌, Bool, true, false, not, cond, eqb, nat_lt, List, [], ◌∷◌, ◌++◌, length, take, drop, get_or, Some, None, Option, inl, inr, refl, sym, ap, ◌∙◌, subst, take_all, add-zero, add-one, drop-cons, arith}
+use Rattle.std.proofs.Common.{◌≡◌, ℕ, suc, ◌+◌, ◌-◌, ◌<◌, ◌≤◌, Bool, false, not, eqb, nat_lt, List, [], ◌∷◌, length, take, drop, get_or, Some, None, inl, inr, refl, sym, ap, ◌∙◌, subst, take_all, add-zero, add-one, drop-cons, arith}
 use Rattle.std.proofs.lemmas.Bool.{cases_Bool, ltb-true, ltb-false, cond-true, cond-false, not-true, ne_eqb}
 use Rattle.std.proofs.lemmas.List.{drop_all, length-drop, get_or-drop}
 use Rattle.std.proofs.lemmas.List.Quantifiers.{position-Some}
-use Rattle.std.specs.List.{position, position_or_len, prefix_len, slice_split, onto_first, filter}
+use Rattle.std.specs.List.{position, position_or_len, slice_split, onto_first, filter}
 use Rattle.std.specs.Str.Lines.{lines, lines_of_parts, strip_carriage_return}
-use Rattle.frs_text.specs.Scripts.{is_blank, is_filled, words_of}
+use Rattle.frs_text.specs.Scripts.{is_filled}
 
 -- where `position` finds an element
 pub at_position : (p : ℕ → Bool) (xs : List ℕ) (i : ℕ) → Some i ≡ position p xs → (position_or_len p xs ≡ i) × (i < length xs)

@@ -1,5 +1,5 @@
 -- How the lines of the transcript are put together, word by word.
-use Rattle.std.specs.Prelude.{ℕ, List, ◌∷◌, flat_map}
+use Rattle.std.specs.Prelude.{List, ◌∷◌, flat_map}
 use Rattle.frs_text.specs.Text.{Text}
 
 -- each word with a space before it

@@ -98,7 +98,8 @@ fn write_acks<S: Sink>(text: &mut String, acks: &[Ack], sink: &mut S) -> Result<
 }
 
 /// Writes the lines of the events, in order, and then a line for each acknowledgement. The scripts are those of clients
-/// 1, 2, .. A fault of the sink, or want of memory, leaves a front of that text written.
+/// 1, 2, .. An answered or waiting event stands at a line of its client's script; of one that doesn't, no command is
+/// printed. A fault of the sink, or want of memory, leaves a front of that text written.
 pub fn transcript<S: Sink>(
     alloc: Global,
     scripts: &[Script],

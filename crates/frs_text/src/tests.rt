@@ -145,8 +145,9 @@ fn asked(alloc: Global, words: &str) -> Result<String, Fail> {
         Ok(plan) => plan,
         Err(fault) => return Ok(format!(in alloc; "{fault:?}")?),
     };
-    let mut text = String::from_str(alloc, plan.store.as_str())?;
-    match plan.job {
+    let Plan { store, job } = plan;
+    let mut text = String::from_str(alloc, store.as_str())?;
+    match job {
         Job::Run {
             plan: RunPlan::Scripts { files },
         } => {

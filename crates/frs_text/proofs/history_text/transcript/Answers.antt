@@ -1,5 +1,4 @@
-use Rattle.std.proofs.Common.{◌∙◌, []}
-use Rattle.std.specs.String.{string_bytes}
+use Rattle.std.proofs.Common.{◌∙◌}
 use Rattle.frs_text.proofs.Gathered.{adds_of_longer, stopped_in_second, stopped_at_end, gathers_more}
 use Rattle.frs_text.proofs.history_text.transcript.Goals as goal
 

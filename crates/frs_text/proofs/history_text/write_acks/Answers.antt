@@ -1,4 +1,4 @@
-use Rattle.std.proofs.Common.{◌<◌, length, arith, rules, refl, ◌∙◌, subst, IsTrue, Bool, true, sym}
+use Rattle.std.proofs.Common.{◌<◌, length, arith, rules, ◌∙◌}
 use Rattle.std.proofs.lemmas.List.{get_or_default}
 use Rattle.frs_text.specs.Text.{ack_line}
 use Rattle.frs_text.proofs.Gathered.{piece_gathered, stopped_in_piece, adds_of_gathered, all_gathered}

@@ -1,4 +1,4 @@
-use Rattle.std.proofs.Common.{arith, rules, refl, ◌∙◌, subst, IsTrue, Bool, true, sym}
+use Rattle.std.proofs.Common.{arith, rules, ◌∙◌}
 use Rattle.frs_text.specs.Text.{event_line}
 use Rattle.frs_text.proofs.Gathered.{piece_gathered, stopped_in_piece, adds_of_gathered, all_gathered}
 use Rattle.frs_text.proofs.history_text.write_events.Goals as goal

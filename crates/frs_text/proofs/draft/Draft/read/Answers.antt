@@ -1,6 +1,6 @@
-use Rattle.std.proofs.Common.{◌≡◌, sym, ap, ◌∙◌}
+use Rattle.std.proofs.Common.{◌≡◌, sym, ◌∙◌}
 use Rattle.std.proofs.lemmas.List.{append-nil}
-use Rattle.frs_text.specs.Scripts.{up_to, fault_of, line_of, said}
+use Rattle.frs_text.specs.Scripts.{up_to, said}
 use Rattle.frs_text.specs.Scripts.Said.{Nothing, Says, Wrong}
 use Rattle.frs_text.proofs.SaidLines.{nothing_said, wrong_said, found_said, long_fault}
 use Rattle.frs_text.proofs.draft.Draft.read.Goals as goal
