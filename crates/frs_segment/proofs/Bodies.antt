@@ -2,7 +2,7 @@
 use Rattle.std.proofs.Common.{◌≡◌, ℕ, suc, ◌+◌, ◌^◌, ◌<◌, ◌≤◌, Bool, true, false, ◌&&◌, List, [], ◌∷◌, ◌++◌, length, take, drop, Option, Some, None, Result, Ok, Err, refl, sym, ap, subst, ◌∙◌, append_assoc, arith, IsTrue}
 use Rattle.std.specs.List.{flat_map, AllByRecursion}
 use Rattle.std.proofs.lemmas.List.{length-append, append-nil}
-use Rattle.std.proofs.lemmas.Bool.{ltb-true, lt-ltb, leb-true, eqb-true}
+use Rattle.std.proofs.lemmas.Bool.{ltb-true, lt-ltb, leb-true, eqb-true, and_parts, and_from}
 use Rattle.std.proofs.Math.Dec.{ltb, leb, eqb}
 use Rattle.std.proofs.lemmas.Grind.{flat_map-append, common_steps}
 use Rattle.frs_types.specs.declared.record.Action.{Action}
@@ -20,39 +20,31 @@ use Rattle.frs_segment.specs.Scanning.{FillBody, TellsRecord}
 
 -- ---- one record
 
-pub both : (a b : Bool) → (a && b) ≡ true → (a ≡ true) × (b ≡ true)
-both true b e = (refl, e)
-both false b e = absurd cc
-
-pub both_true : (a b : Bool) → a ≡ true → b ≡ true → (a && b) ≡ true
-both_true true b p q = q
-both_true false b p q = absurd cc
-
 kind_permitted : (n : ℕ) (action : Action) (tx named : ℕ) → 1 ≤ n → kind_allows n action tx named ≡ true → kind_permits action tx named ≡ true
 kind_permitted n (Put id key value) tx named le is = refl
 kind_permitted n (Remove id key) tx named le is = refl
-kind_permitted n (Delete id) tx named le is = (both (ltb tx n) (eqb named 0) is).1
+kind_permitted n (Delete id) tx named le is = (and_parts (ltb tx n) (eqb named 0) is).1
 kind_permitted n Begin tx named le is =
-    let parts = both (eqb tx n) (eqb named 0) is in
-    both_true (ltb 0 tx) (eqb named 0) (lt-ltb 0 tx (omega (arith, eqb-true tx n parts.0))) parts.1
+    let parts = and_parts (eqb tx n) (eqb named 0) is in
+    and_from (ltb 0 tx) (eqb named 0) (lt-ltb 0 tx (omega (arith, eqb-true tx n parts.0))) parts.1
 kind_permitted n Commit tx named le is =
-    let parts = both (ltb 0 tx && ltb tx n) (eqb named 0) is in
-    both_true (ltb 0 tx) (eqb named 0) (both (ltb 0 tx) (ltb tx n) parts.0).0 parts.1
+    let parts = and_parts (ltb 0 tx && ltb tx n) (eqb named 0) is in
+    and_from (ltb 0 tx) (eqb named 0) (and_parts (ltb 0 tx) (ltb tx n) parts.0).0 parts.1
 kind_permitted n (Compaction id key value) tx named le is = is
 kind_permitted n Mark tx named le is = is
 kind_permitted n Abandon tx named le is =
-    let parts = both (ltb 0 tx && ltb tx n) (eqb named 0) is in
-    both_true (ltb 0 tx) (eqb named 0) (both (ltb 0 tx) (ltb tx n) parts.0).0 parts.1
+    let parts = and_parts (ltb 0 tx && ltb tx n) (eqb named 0) is in
+    and_from (ltb 0 tx) (eqb named 0) (and_parts (ltb 0 tx) (ltb tx n) parts.0).0 parts.1
 
 tx_below : (n : ℕ) (action : Action) (tx named : ℕ) → kind_allows n action tx named ≡ true → tx ≤ n
 tx_below n (Put id key value) tx named is = omega (arith, ltb-true tx n is)
 tx_below n (Remove id key) tx named is = omega (arith, ltb-true tx n is)
-tx_below n (Delete id) tx named is = omega (arith, ltb-true tx n (both (ltb tx n) (eqb named 0) is).0)
-tx_below n Begin tx named is = omega (arith, eqb-true tx n (both (eqb tx n) (eqb named 0) is).0)
-tx_below n Commit tx named is = omega (arith, ltb-true tx n (both (ltb 0 tx) (ltb tx n) (both (ltb 0 tx && ltb tx n) (eqb named 0) is).0).1)
-tx_below n (Compaction id key value) tx named is = omega (arith, eqb-true tx 0 (both (eqb tx 0) (ltb 0 named) is).0)
-tx_below n Mark tx named is = omega (arith, eqb-true tx 0 (both (eqb tx 0) (eqb named 0) is).0)
-tx_below n Abandon tx named is = omega (arith, ltb-true tx n (both (ltb 0 tx) (ltb tx n) (both (ltb 0 tx && ltb tx n) (eqb named 0) is).0).1)
+tx_below n (Delete id) tx named is = omega (arith, ltb-true tx n (and_parts (ltb tx n) (eqb named 0) is).0)
+tx_below n Begin tx named is = omega (arith, eqb-true tx n (and_parts (eqb tx n) (eqb named 0) is).0)
+tx_below n Commit tx named is = omega (arith, ltb-true tx n (and_parts (ltb 0 tx) (ltb tx n) (and_parts (ltb 0 tx && ltb tx n) (eqb named 0) is).0).1)
+tx_below n (Compaction id key value) tx named is = omega (arith, eqb-true tx 0 (and_parts (eqb tx 0) (ltb 0 named) is).0)
+tx_below n Mark tx named is = omega (arith, eqb-true tx 0 (and_parts (eqb tx 0) (eqb named 0) is).0)
+tx_below n Abandon tx named is = omega (arith, ltb-true tx n (and_parts (ltb 0 tx) (ltb tx n) (and_parts (ltb 0 tx && ltb tx n) (eqb named 0) is).0).1)
 
 -- what a record that may stand at an LSN has
 record Standing (n : ℕ) (r : Record) : Type 0 where
@@ -65,10 +57,10 @@ record Standing (n : ℕ) (r : Record) : Type 0 where
 standing : (n : ℕ) (r : Record) → IsTrue (allowed n r) → Standing n r
 standing n r is =
     let kind = kind_allows n r.action r.tx r.named in
-    let w = both (kind && ltb r.named n && ltb 0 r.lowest && leb r.lowest n) (has_words r.action) is in
-    let l = both (kind && ltb r.named n && ltb 0 r.lowest) (leb r.lowest n) w.0 in
-    let k = both (kind && ltb r.named n) (ltb 0 r.lowest) l.0 in
-    let m = both kind (ltb r.named n) k.0 in
+    let w = and_parts (kind && ltb r.named n && ltb 0 r.lowest && leb r.lowest n) (has_words r.action) is in
+    let l = and_parts (kind && ltb r.named n && ltb 0 r.lowest) (leb r.lowest n) w.0 in
+    let k = and_parts (kind && ltb r.named n) (ltb 0 r.lowest) l.0 in
+    let m = and_parts kind (ltb r.named n) k.0 in
     record { kind = m.0; named = ltb-true r.named n m.1; named_lowest = ltb-true 0 r.lowest k.1; lowest = leb-true r.lowest n l.1; words = w.1 }
 
 -- a record that may stand at an LSN may stand somewhere
@@ -76,8 +68,8 @@ pub permitted : (n : ℕ) (r : Record) → IsTrue (allowed n r) → IsTrue (well
 permitted n r is =
     let s = standing n r is in
     let kind = kind_permits r.action r.tx r.named in
-    both_true (kind && ltb 0 r.lowest) (has_words r.action)
-    (both_true kind (ltb 0 r.lowest) (kind_permitted n r.action r.tx r.named (omega (arith, s.named_lowest, s.lowest)) s.kind) (lt-ltb 0 r.lowest s.named_lowest)) s.words
+    and_from (kind && ltb 0 r.lowest) (has_words r.action)
+    (and_from kind (ltb 0 r.lowest) (kind_permitted n r.action r.tx r.named (omega (arith, s.named_lowest, s.lowest)) s.kind) (lt-ltb 0 r.lowest s.named_lowest)) s.words
 
 -- and its numbers fit, where the LSN fits
 pub allowed_fits : (n : ℕ) (r : Record) → n < 2 ^ 64 → IsTrue (allowed n r) → Fits r
@@ -117,16 +109,16 @@ pub body_more : (rs : List Record) (r : Record) → body (rs ++ r ∷ []) ≡ bo
 body_more rs r = body-append rs (r ∷ []) ∙ ap (λ (x : List ℕ). body rs ++ x) (append-nil (spelling r))
 
 pub allowed_from-append : (n : ℕ) (rs : List Record) (r : Record) → IsTrue (allowed_from n rs) → IsTrue (allowed (n + length rs) r) → IsTrue (allowed_from n (rs ++ r ∷ []))
-allowed_from-append n [] r all is = let e : n + 0 ≡ n = omega arith in both_true (allowed n r) true (ap (λ (k : ℕ). allowed k r) (sym e) ∙ is) refl
+allowed_from-append n [] r all is = let e : n + 0 ≡ n = omega arith in and_from (allowed n r) true (ap (λ (k : ℕ). allowed k r) (sym e) ∙ is) refl
 allowed_from-append n (q ∷ rs) r all is =
-    let parts = both (allowed n q) (allowed_from (n + 1) rs) all in
+    let parts = and_parts (allowed n q) (allowed_from (n + 1) rs) all in
     let e : n + length (q ∷ rs) ≡ n + 1 + length rs = omega arith in
-    both_true (allowed n q) (allowed_from (n + 1) (rs ++ r ∷ [])) parts.0 (allowed_from-append (n + 1) rs r parts.1 (ap (λ (k : ℕ). allowed k r) (sym e) ∙ is))
+    and_from (allowed n q) (allowed_from (n + 1) (rs ++ r ∷ [])) parts.0 (allowed_from-append (n + 1) rs r parts.1 (ap (λ (k : ℕ). allowed k r) (sym e) ∙ is))
 
 pub all_fit : (n : ℕ) (rs : List Record) → n + length rs ≤ 2 ^ 62 → IsTrue (allowed_from n rs) → AllByRecursion Fits rs
 all_fit n [] le all = tt
 all_fit n (r ∷ rs) le all =
-    let parts = both (allowed n r) (allowed_from (n + 1) rs) all in
+    let parts = and_parts (allowed n r) (allowed_from (n + 1) rs) all in
     (allowed_fits n r (omega arith) parts.0, all_fit (n + 1) rs (omega arith) parts.1)
 
 -- no record is spelled by no bytes
@@ -171,10 +163,10 @@ stand_more place text rs count rest r len s tells = record {
 
 -- the record behind others may stand behind them
 allowed_at : (n : ℕ) (rs : List Record) (r : Record) (more : List Record) → IsTrue (allowed_from n (rs ++ r ∷ more)) → IsTrue (allowed (n + length rs) r)
-allowed_at n [] r more all = let e : n + 0 ≡ n = omega arith in ap (λ (k : ℕ). allowed k r) e ∙ (both (allowed n r) (allowed_from (n + 1) more) all).0
+allowed_at n [] r more all = let e : n + 0 ≡ n = omega arith in ap (λ (k : ℕ). allowed k r) e ∙ (and_parts (allowed n r) (allowed_from (n + 1) more) all).0
 allowed_at n (q ∷ rs) r more all =
     let e : n + length (q ∷ rs) ≡ n + 1 + length rs = omega arith in
-    ap (λ (k : ℕ). allowed k r) e ∙ allowed_at (n + 1) rs r more (both (allowed n q) (allowed_from (n + 1) (rs ++ r ∷ more)) all).1
+    ap (λ (k : ℕ). allowed k r) e ∙ allowed_at (n + 1) rs r more (and_parts (allowed n q) (allowed_from (n + 1) (rs ++ r ∷ more)) all).1
 
 fill_front : (place : ChunkPlace) (text : List ℕ) (rs : List Record) (count : ℕ) (rest : List ℕ) (qs : List Record) → place.first + place.count ≤ 2 ^ 62 → count ≤ place.count → Stand place text rs count rest → FillBody place text qs
     → (more : List Record) × (qs ≡ rs ++ more) × (rest ≡ body more)

@@ -1,5 +1,5 @@
 -- What reading a segment file tells: where its chunks stand, or the first thing from the front that is wrong.
-use Rattle.std.specs.Prelude.{◌≡◌, ◌⊎◌, ℕ, ◌+◌, ◌^◌, ◌≤◌, Bool, not, ◌&&◌, ◌==◌, nat_lt, nat_le, List, [], ◌∷◌, ◌++◌, length, take, drop, codes, slice_index, slice_range, IsTrue, Option, Some, None, Result, Ok, Err, if◌then◌else◌}
+use Rattle.std.specs.Prelude.{◌≡◌, ◌⊎◌, ℕ, ◌+◌, ◌^◌, ◌<◌, ◌≤◌, Bool, not, ◌&&◌, ◌==◌, nat_lt, nat_le, List, [], ◌∷◌, ◌++◌, length, take, drop, codes, slice_index, slice_range, IsTrue, Option, Some, None, Result, Ok, Err, if◌then◌else◌}
 use Rattle.std.specs.Str.{bytes_eq}
 use Rattle.std.specs.Int.{Width, w32, w64, byte_len, from_be_bytes}
 use Rattle.frs_types.specs.declared.record.Record.{Record}
@@ -103,23 +103,15 @@ IsRefused file fault = (header_of file ≡ Err fault) ⊎ RefusesBody file fault
 
 -- the segment that the file is, or what is wrong first; want of memory is free
 abbrev pub TellsFile : File → Result Described ScanFault → Type 0
-TellsFile file (Ok found) = (s : Segment) × IsSegment file s × (found ≡ described s)
-TellsFile file (Err HalfMade) = IsRefused file HalfMade
-TellsFile file (Err (BadHeader offset)) = IsRefused file (BadHeader offset)
-TellsFile file (Err (BadChunk offset)) = IsRefused file (BadChunk offset)
-TellsFile file (Err (NumberLimit lsn)) = IsRefused file (NumberLimit lsn)
-TellsFile file (Err Disk) = ⊥
+TellsFile file (Ok found) = file.0 < 2 ^ 62 → (s : Segment) × IsSegment file s × (found ≡ described s)
 TellsFile file (Err Memory) = Unit {0}
+TellsFile file (Err fault) = IsRefused file fault
 
 -- the place of the chunk behind the open gate at the offset, or what is wrong first; want of memory is free
 abbrev pub TellsChunk : ℕ → ℕ → List ℕ → Result ChunkPlace ScanFault → Type 0
 TellsChunk offset next behind (Ok place) = (place.offset ≡ offset) × (place.first ≡ next) × ((rs : List Record) × IsChunk place (1 ∷ behind) rs)
-TellsChunk offset next behind (Err HalfMade) = ⊥
-TellsChunk offset next behind (Err (BadHeader at)) = ⊥
-TellsChunk offset next behind (Err (BadChunk at)) = RefusesChunk offset next behind (BadChunk at)
-TellsChunk offset next behind (Err (NumberLimit lsn)) = RefusesChunk offset next behind (NumberLimit lsn)
-TellsChunk offset next behind (Err Disk) = ⊥
 TellsChunk offset next behind (Err Memory) = Unit {0}
+TellsChunk offset next behind (Err fault) = RefusesChunk offset next behind fault
 
 -- Why the bytes aren't the records that the place tells; want of memory is free.
 abbrev pub RefusesRecords : ChunkPlace → List ℕ → ScanFault → Type 0

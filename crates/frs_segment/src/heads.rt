@@ -1,5 +1,5 @@
 //! The header of a segment file and the head of a chunk: their fields, and the tests that need no records.
-ghost use Rattle.std.specs.Prelude.{◌≡◌, ◌+◌, ◌≤◌, length, slice_range, codes};
+ghost use Rattle.std.specs.Prelude.{◌≡◌, ◌+◌, ◌<◌, ◌≤◌, ◌^◌, IfOk, length, slice_range, codes};
 ghost use Rattle.std.specs.Int.{w32, w64};
 ghost use Rattle.std.specs.Str.{bytes_eq};
 ghost use Rattle.frs_segment.specs.Scanning.{number_at, header_of, head_of};
@@ -11,7 +11,7 @@ use crate::layout::ChunkPlace;
 const LSN_LIMIT: u64 = 1 << 62;
 
 // The number of bytes of a header, with the gate of the first chunk.
-const HEADER: usize = 23;
+pub(crate) const HEADER: usize = 23;
 
 // The number of bytes of a chunk's head behind its gate.
 const HEAD: usize = 16;
@@ -80,7 +80,10 @@ pub(crate) fn header_at(bytes: &[u8], number: u64) -> Result<u64, ScanFault>
 // what is wrong with it first. `behind` is what the file holds behind that gate.
 #[tactic(auto, unfolding(crate::specs::Scanning::head_of))]
 pub(crate) fn head_at(behind: &[u8], offset: u64, next: u64) -> Result<ChunkPlace, ScanFault>
-    ensures { result ≡ head_of offset next behind.now }
+    ensures told { result ≡ head_of offset next behind.now }
+    ensures there { IfOk result (λ place. 16 + place.body < length behind.now) }
+    ensures first { IfOk result (λ place. place.first ≡ next) }
+    ensures within { IfOk result (λ place. next + place.count ≤ 2 ^ 62) }
 {
     if behind.len() <= HEAD {
         return Err(ScanFault::BadChunk { offset });
