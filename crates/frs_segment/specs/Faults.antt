@@ -20,12 +20,12 @@ HasDiskCause before now (Err (NumberLimit lsn)) = now ≡ before
 HasDiskCause before now (Err Disk) = (before ≤ now) × Rose before now
 HasDiskCause before now (Err Memory) = now ≡ before
 
--- What a call answers about bytes is this, unless the disk or memory fails.
-abbrev pub Gives : {X : Type 0} → Result X ScanFault → Result X ScanFault → Type 0
-Gives meant (Ok x) = meant ≡ Ok x
-Gives meant (Err HalfMade) = meant ≡ Err HalfMade
-Gives meant (Err (BadHeader offset)) = meant ≡ Err (BadHeader offset)
-Gives meant (Err (BadChunk offset)) = meant ≡ Err (BadChunk offset)
-Gives meant (Err (NumberLimit lsn)) = meant ≡ Err (NumberLimit lsn)
-Gives meant (Err Disk) = Unit {0}
-Gives meant (Err Memory) = Unit {0}
+-- What a call has answered, seen by view, is what was meant, unless the disk or memory has failed.
+abbrev pub Gives : {X Y : Type 0} → (X → Y) → Result X ScanFault → Result Y ScanFault → Type 0
+Gives view (Ok x) meant = meant ≡ Ok (view x)
+Gives view (Err HalfMade) meant = meant ≡ Err HalfMade
+Gives view (Err (BadHeader offset)) meant = meant ≡ Err (BadHeader offset)
+Gives view (Err (BadChunk offset)) meant = meant ≡ Err (BadChunk offset)
+Gives view (Err (NumberLimit lsn)) meant = meant ≡ Err (NumberLimit lsn)
+Gives view (Err Disk) meant = Unit {0}
+Gives view (Err Memory) meant = Unit {0}

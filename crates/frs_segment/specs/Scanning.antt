@@ -107,6 +107,12 @@ TellsFile file (Ok found) = file.0 < 2 ^ 62 → (s : Segment) × IsSegment file 
 TellsFile file (Err Memory) = Unit {0}
 TellsFile file (Err fault) = IsRefused file fault
 
+-- Why a call that reads the file has answered a fault: this is wrong first. The disk and memory are free.
+abbrev pub IsCauseIn : File → ScanFault → Type 0
+IsCauseIn file Disk = Unit {0}
+IsCauseIn file Memory = Unit {0}
+IsCauseIn file fault = IsRefused file fault
+
 -- the place of the chunk behind the open gate at the offset, or what is wrong first; want of memory is free
 abbrev pub TellsChunk : ℕ → ℕ → List ℕ → Result ChunkPlace ScanFault → Type 0
 TellsChunk offset next behind (Ok place) = (place.offset ≡ offset) × (place.first ≡ next) × ((rs : List Record) × IsChunk place (1 ∷ behind) rs)
@@ -121,6 +127,24 @@ RefusesRecords place bytes (BadChunk at) = (at ≡ place.offset) × ((rs : List 
 RefusesRecords place bytes (NumberLimit lsn) = ⊥
 RefusesRecords place bytes Disk = ⊥
 RefusesRecords place bytes Memory = Unit {0}
+
+-- Of a chunk whose place is known it is only told that it isn't there.
+abbrev pub IsFaultAt : ChunkPlace → ScanFault → Type 0
+IsFaultAt place HalfMade = ⊥
+IsFaultAt place (BadHeader at) = ⊥
+IsFaultAt place (BadChunk at) = at ≡ place.offset
+IsFaultAt place (NumberLimit lsn) = ⊥
+IsFaultAt place Disk = Unit {0}
+IsFaultAt place Memory = Unit {0}
+
+-- no such chunk stands at the front of these bytes; want of memory is free
+abbrev pub RefusesPlace : ChunkPlace → List ℕ → ScanFault → Type 0
+RefusesPlace place text HalfMade = ⊥
+RefusesPlace place text (BadHeader at) = ⊥
+RefusesPlace place text (BadChunk at) = (at ≡ place.offset) × ((rs : List Record) → IsChunk place text rs → ⊥)
+RefusesPlace place text (NumberLimit lsn) = ⊥
+RefusesPlace place text Disk = ⊥
+RefusesPlace place text Memory = Unit {0}
 
 -- the record at the front that may have this LSN, and where it ends; or there is none
 abbrev pub TellsRecord : List ℕ → ℕ → Option (Record × ℕ) → Type 0

@@ -12,7 +12,7 @@ use std::alloc::Global;
 const FRONT: usize = 17;
 
 // The segment that the bytes of this file are, or what is wrong with them first.
-fn segment_in(alloc: Global, number: u64, bytes: &[u8]) -> Result<Segment, ScanFault>
+pub(crate) fn segment_in(alloc: Global, number: u64, bytes: &[u8]) -> Result<Segment, ScanFault>
     ensures { TellsFile (number, bytes.now) result }
 {
     let first = header_at(bytes, number)?;
