@@ -17,6 +17,7 @@ use Rattle.frs_history.specs.declared.command.Command.TheVariants.{Begin, Put, R
 use Rattle.frs_history.specs.declared.command.Line.{Line}
 use Rattle.frs_text.specs.Text.{is_plain}
 use Rattle.frs_history.specs.Scripts.{rises_from, is_bracketed, may_stand, inside_after, is_script}
+use Rattle.frs_engine.specs.Promise.{is_put_or_get, has_puts_and_gets}
 use Rattle.frs_engine.specs.Plain.{is_plain_word, is_plain_command, plain_line, plain_lines, IsPlainScript}
 use Rattle.frs_engine.specs.declared.plain.PlainFault.{PlainFault}
 use Rattle.frs_engine.specs.declared.plain.PlainFault.TheVariants.{NotPlain, Memory}
@@ -293,3 +294,19 @@ nonzero (suc n) b is no_rest = omega arith
 pub none_read : {Y : Type 0} (f : PlainFault) (read : Option Y) → Fails f read → f ≡ NotPlain → read ≡ None
 none_read NotPlain read fails is = fails
 none_read Memory read fails is = cc
+
+-- a plain script has puts and gets alone
+plain_put_or_get : (c : Command) → is_plain_command c ≡ true → is_put_or_get c ≡ true
+plain_put_or_get (Put id key value) plain = refl
+plain_put_or_get (Get id key) plain = refl
+plain_put_or_get (Begin sync) plain = plain
+plain_put_or_get (Remove id key) plain = plain
+plain_put_or_get (Delete id) plain = plain
+plain_put_or_get Commit plain = plain
+plain_put_or_get Snapshot plain = plain
+
+pub plain_puts_and_gets : (script : List Line) → AllPlain script → IsTrue (has_puts_and_gets script)
+plain_puts_and_gets [] all = refl
+plain_puts_and_gets (l ∷ script) all =
+    let both = and_parts (is_plain_command l.command) _ all in
+    and_from _ _ (plain_put_or_get l.command both.0) (plain_puts_and_gets script both.1)

@@ -1,6 +1,6 @@
 -- The promise of a run of one script of puts and gets on an empty store.
-use Rattle.std.specs.Prelude.{◌≡◌, ℕ, ◌+◌, ◌≤◌, Bool, true, false, not, ◌&&◌, ◌==◌, nat_le, List, [], ◌∷◌, ◌++◌, map, flat_map, length, Option, Some, None, IsTrue, is_none}
-use Rattle.std.specs.List.{AllZip, list_all, range_with_len}
+use Rattle.std.specs.Prelude.{◌≡◌, ℕ, ◌+◌, ◌≤◌, Bool, true, false, not, ◌&&◌, ◌==◌, nat_le, List, [], ◌∷◌, ◌++◌, flat_map, length, Option, Some, None, IsTrue, is_none}
+use Rattle.std.specs.List.{AllZip, list_all}
 use Rattle.std.specs.FinMap.{entries}
 use Rattle.frs_types.specs.declared.record.Action.{Action}
 use Rattle.frs_types.specs.declared.record.Action.TheVariants as action
@@ -13,7 +13,7 @@ use Rattle.frs_history.specs.declared.command.Command.TheVariants as command
 use Rattle.frs_history.specs.declared.command.Line.{Line}
 use Rattle.frs_history.specs.declared.event.Ack.{Ack}
 use Rattle.frs_history.specs.declared.event.Event.{Event}
-use Rattle.frs_history.specs.Histories.{Moment, moments, commits_from, owed, Legal, is_active, run}
+use Rattle.frs_history.specs.Histories.{moments, commits_from, owed, Legal, is_active, run}
 use Rattle.frs_history.specs.Machine.{Scripts, State, Changes, start, client, next_line}
 use Rattle.frs_disk.specs.Disk.{Image}
 use Rattle.frs_segment.specs.Segments.{File, Segment, IsSegment, open_files, all_records, follow_from}
@@ -70,7 +70,7 @@ puts rs = flat_map (λ (r : Record). puts_by r.action) rs
 
 -- There is at most one file, which has the number 1. The open files are segments that follow each other from LSN 1 on. Their newest LSN is n,
 -- their records are lawful from an empty store on, and their j put records, applied oldest first, are the maps after
--- the first j commits. A half-made file shows no record.
+-- the first j commits, of which there are so many. A half-made file shows no record.
 pub record ShowsPuts (files : List File) (commits : List Changes) (n j : ℕ) : Type 0 where
   pub one : length files ≤ 1
   pub number : IsTrue (list_all (λ (f : File). f.0 == 1) files)
@@ -80,6 +80,7 @@ pub record ShowsPuts (files : List File) (commits : List Changes) (n j : ℕ) : 
   pub newest : length (all_records segments) ≡ n
   pub lawful : Lawful [] 1 (all_records segments)
   pub count : length (puts (all_records segments)) ≡ j
+  pub known : j ≤ length commits
   pub maps : changed_by [] (puts (all_records segments)) ≡ After [] commits j
 
 -- some newest LSN and some number of commits

@@ -14,7 +14,7 @@ const COMMIT: [u8; 25] = [
     5, 0, 0, 0, 0, 0, 0, 0, 4, 0, 0, 0, 0, 0, 0, 0, 2, 0, 0, 0, 0, 0, 0, 0, 0,
 ];
 
-// A record's bytes are the given ones, and those are read as that record, whatever follows.
+// The record's bytes are the given ones, and those are read as that record, whatever follows.
 fn has_bytes(
     rt: &impl Abort,
     alloc: Global,
@@ -33,12 +33,25 @@ fn has_bytes(
     let mut again = encode_payload(alloc, &record.action)?;
     again.patch(record.tx, record.lowest, record.named);
     assert_eq!(rt; again.bytes(), bytes);
-    framed.make_abandon();
-    let abandon: &[u8] = &[
-        8, 0, 0, 0, 0, 0, 0, 0, 0, 0, 0, 0, 0, 0, 0, 0, 0, 0, 0, 0, 0, 0, 0, 0, 0,
-    ];
-    assert_eq!(rt; framed.bytes(), abandon);
     Ok(())
+}
+
+// The same, where the bytes are that kind, the three numbers and what stands behind them.
+fn has_parts(
+    rt: &impl Abort,
+    alloc: Global,
+    action: &Action,
+    kind: u8,
+    head: (u64, u64, u64),
+    behind: &[u8],
+) -> Result<(), Fail> {
+    let mut bytes = Vec::new(alloc);
+    bytes.push(kind)?;
+    bytes.extend_from_slice(&head.0.to_be_bytes())?;
+    bytes.extend_from_slice(&head.1.to_be_bytes())?;
+    bytes.extend_from_slice(&head.2.to_be_bytes())?;
+    bytes.extend_from_slice(behind)?;
+    has_bytes(rt, alloc, action, head, bytes.as_slice())
 }
 
 #[test]
@@ -51,75 +64,52 @@ fn each_kind(rt: HostRuntime) -> Result<(), Fail> {
         key: key()?,
         value: Value::new(alloc, b"v")?,
     };
-    has_bytes(&rt, alloc, &put, (0, 2, 0), &PUT)?;
-    has_bytes(&rt, alloc, &Action::Commit, (4, 2, 0), &COMMIT)?;
     let remove = Action::Remove {
         id: id()?,
         key: key()?,
     };
-    has_bytes(
-        &rt,
-        alloc,
-        &remove,
-        (3, 2, 4),
-        &[
-            2, 0, 0, 0, 0, 0, 0, 0, 3, 0, 0, 0, 0, 0, 0, 0, 2, 0, 0, 0, 0, 0, 0, 0, 4, 1, 109, 1,
-            107,
-        ],
-    )?;
     let delete = Action::Delete { id: id()? };
-    has_bytes(
-        &rt,
-        alloc,
-        &delete,
-        (3, 2, 0),
-        &[
-            3, 0, 0, 0, 0, 0, 0, 0, 3, 0, 0, 0, 0, 0, 0, 0, 2, 0, 0, 0, 0, 0, 0, 0, 0, 1, 109,
-        ],
-    )?;
-    let long = 0x0102_0304_0506_0708;
-    has_bytes(
-        &rt,
-        alloc,
-        &Action::Begin,
-        (long, 258, 0),
-        &[
-            4, 1, 2, 3, 4, 5, 6, 7, 8, 0, 0, 0, 0, 0, 0, 1, 2, 0, 0, 0, 0, 0, 0, 0, 0,
-        ],
-    )?;
     let compaction = Action::Compaction {
         id: id()?,
         key: key()?,
         value: Value::new(alloc, b"")?,
     };
-    has_bytes(
+    has_bytes(&rt, alloc, &put, (0, 2, 0), &PUT)?;
+    has_bytes(&rt, alloc, &Action::Commit, (4, 2, 0), &COMMIT)?;
+    has_parts(&rt, alloc, &remove, 2, (3, 2, 4), &[1, 109, 1, 107])?;
+    has_parts(&rt, alloc, &delete, 3, (3, 2, 0), &[1, 109])?;
+    has_parts(
+        &rt,
+        alloc,
+        &Action::Begin,
+        4,
+        (0x0102_0304_0506_0708, 258, 0),
+        &[],
+    )?;
+    has_parts(
         &rt,
         alloc,
         &compaction,
+        6,
         (0, 2, 258),
-        &[
-            6, 0, 0, 0, 0, 0, 0, 0, 0, 0, 0, 0, 0, 0, 0, 0, 2, 0, 0, 0, 0, 0, 0, 1, 2, 1, 109, 1,
-            107, 0, 0,
-        ],
+        &[1, 109, 1, 107, 0, 0],
     )?;
-    has_bytes(
-        &rt,
-        alloc,
-        &Action::Mark,
-        (0, 1, 0),
-        &[
-            7, 0, 0, 0, 0, 0, 0, 0, 0, 0, 0, 0, 0, 0, 0, 0, 1, 0, 0, 0, 0, 0, 0, 0, 0,
-        ],
-    )?;
-    has_bytes(
-        &rt,
-        alloc,
-        &Action::Abandon,
-        (3, 2, 0),
-        &[
-            8, 0, 0, 0, 0, 0, 0, 0, 3, 0, 0, 0, 0, 0, 0, 0, 2, 0, 0, 0, 0, 0, 0, 0, 0,
-        ],
-    )
+    has_parts(&rt, alloc, &Action::Mark, 7, (0, 1, 0), &[])?;
+    has_parts(&rt, alloc, &Action::Abandon, 8, (3, 2, 0), &[])
+}
+
+#[test]
+fn an_abandoned_put(rt: HostRuntime) -> Result<(), Fail> {
+    let alloc = rt.alloc();
+    let id = MapId::new(alloc, b"m")?;
+    let mut framed = encode_payload(alloc, &Action::Delete { id })?;
+    framed.make_abandon();
+    framed.patch(4, 2, 0);
+    let mut abandon = COMMIT;
+    abandon[0] = 8;
+    let abandon: &[u8] = &abandon;
+    assert_eq!(rt; framed.bytes(), abandon);
+    Ok(())
 }
 
 // What the bytes give once one of them is changed and only the first `len` are kept.

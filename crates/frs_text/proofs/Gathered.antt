@@ -4,11 +4,12 @@ use Rattle.std.proofs.lemmas.List.{append-nil, take-append-drop}
 use Rattle.std.proofs.lemmas.List.Concat.{flat_map-append}
 use Rattle.std.proofs.lemmas.Grind.{take_at_read}
 use Rattle.std.specs.List.{flat_map}
-use Rattle.frs_text.specs.Sinks.{Gathers, AddsPrefix}
+use Rattle.frs_disk.specs.Outside.{AddsPartOf}
+use Rattle.frs_text.specs.Sinks.{Gathers}
 
 -- nothing was taken
-pub nothing_taken : (old text : List ℕ) → AddsPrefix old old text
-nothing_taken old text = (text, record { taken = []; appended = sym (append-nil old); rest = refl })
+pub nothing_taken : (old text : List ℕ) → AddsPartOf text old old
+nothing_taken old text = ([], text, sym (append-nil old), refl)
 
 pub gathers_more : (o p n l t n2 l2 t2 : List ℕ) → Gathers o p n l t → Gathers n l n2 l2 t2 → Gathers o p n2 l2 (t ++ t2)
 gathers_more o p n l t n2 l2 t2 a b = record {
@@ -17,24 +18,20 @@ gathers_more o p n l t n2 l2 t2 a b = record {
   rest = append_assoc a.taken b.taken l2 ∙ ap (λ x. a.taken ++ x) b.rest ∙ sym (append_assoc a.taken l t2) ∙ ap (λ x. x ++ t2) a.rest ∙ append_assoc p t t2;
 }
 
-pub adds_more : (o p n l t n2 t2 : List ℕ) → Gathers o p n l t → AddsPrefix n n2 (l ++ t2) → AddsPrefix o n2 (p ++ (t ++ t2))
-adds_more o p n l t n2 t2 a b = (b.0, record {
-  taken = a.taken ++ b.1.taken;
-  appended = b.1.appended ∙ ap (λ x. x ++ b.1.taken) a.appended ∙ append_assoc o a.taken b.1.taken;
-  rest = append_assoc a.taken b.1.taken b.0 ∙ ap (λ x. a.taken ++ x) b.1.rest ∙ sym (append_assoc a.taken l t2) ∙ ap (λ x. x ++ t2) a.rest ∙ append_assoc p t t2;
-})
+pub adds_more : (o p n l t n2 t2 : List ℕ) → Gathers o p n l t → AddsPartOf (l ++ t2) n n2 → AddsPartOf (p ++ (t ++ t2)) o n2
+adds_more o p n l t n2 t2 a b = (
+    a.taken ++ b.0,
+    b.1,
+    b.2 ∙ ap (λ x. x ++ b.0) a.appended ∙ append_assoc o a.taken b.0,
+    append_assoc a.taken b.0 b.1 ∙ ap (λ x. a.taken ++ x) b.3 ∙ sym (append_assoc a.taken l t2) ∙ ap (λ x. x ++ t2) a.rest ∙ append_assoc p t t2)
 
 -- a front of a text is one of a longer text
-pub adds_of_longer : (old new text more : List ℕ) → AddsPrefix old new text → AddsPrefix old new (text ++ more)
-adds_of_longer old new text more a = (a.0 ++ more, record {
-  taken = a.1.taken;
-  appended = a.1.appended;
-  rest = sym (append_assoc a.1.taken a.0 more) ∙ ap (λ x. x ++ more) a.1.rest;
-})
+pub adds_of_longer : (old new text more : List ℕ) → AddsPartOf text old new → AddsPartOf (text ++ more) old new
+adds_of_longer old new text more a = (a.0, a.1 ++ more, a.2, sym (append_assoc a.0 a.1 more) ∙ ap (λ x. x ++ more) a.3)
 
 -- what is gathered begins with what was taken
-pub adds_of_gathered : (o p n l t : List ℕ) → Gathers o p n l t → AddsPrefix o n (p ++ t)
-adds_of_gathered o p n l t a = (l, record { taken = a.taken; appended = a.appended; rest = a.rest })
+pub adds_of_gathered : (o p n l t : List ℕ) → Gathers o p n l t → AddsPartOf (p ++ t) o n
+adds_of_gathered o p n l t a = (a.taken, l, a.appended, a.rest)
 
 -- one more piece
 pub taken_more : {X : Type 0} (f : X → List ℕ) (xs : List X) (i : ℕ) (x : X) → i < length xs → x ≡ get_or xs i x → flat_map f (take (i + 1) xs) ≡ flat_map f (take i xs) ++ f x
@@ -56,8 +53,8 @@ piece_gathered f xs i x o p n l n2 l2 lt is a b = let P : List ℕ → Type 0 = 
 
 -- the loop stopped in a piece
 pub stopped_in_piece : {X : Type 0} (f : X → List ℕ) (xs : List X) (i : ℕ) (x : X) (o p n l n2 : List ℕ) → i < length xs → x ≡ get_or xs i x
-    → Gathers o p n l (flat_map f (take i xs)) → AddsPrefix n n2 (l ++ f x) → AddsPrefix o n2 (p ++ flat_map f xs)
-stopped_in_piece f xs i x o p n l n2 lt is a b = let P : List ℕ → Type 0 = λ t. AddsPrefix o n2 t in
+    → Gathers o p n l (flat_map f (take i xs)) → AddsPartOf (l ++ f x) n n2 → AddsPartOf (p ++ flat_map f xs) o n2
+stopped_in_piece f xs i x o p n l n2 lt is a b = let P : List ℕ → Type 0 = λ t. AddsPartOf t o n2 in
     subst P (append_assoc p (flat_map f (take i xs) ++ f x) (flat_map f (drop (i + 1) xs)) ∙ ap (λ t. p ++ t) (sym (in_three f xs i x lt is)))
     (adds_of_longer o n2 (p ++ (flat_map f (take i xs) ++ f x)) (flat_map f (drop (i + 1) xs)) (adds_more o p n l (flat_map f (take i xs)) n2 (f x) a b))
 
@@ -66,10 +63,10 @@ pub all_gathered : {X : Type 0} (f : X → List ℕ) (xs : List X) (i : ℕ) (o 
 all_gathered {X} f xs i o p n l le a = let P : List X → Type 0 = λ ys. Gathers o p n l (flat_map f ys) in subst P (take_all i xs le) a
 
 -- two texts one after the other: the first is all there, and the second stopped
-pub stopped_in_second : (o n l t n2 t2 : List ℕ) → Gathers o [] n l t → AddsPrefix n n2 (l ++ t2) → AddsPrefix o n2 (t ++ t2)
+pub stopped_in_second : (o n l t n2 t2 : List ℕ) → Gathers o [] n l t → AddsPartOf (l ++ t2) n n2 → AddsPartOf (t ++ t2) o n2
 stopped_in_second o n l t n2 t2 a b = adds_more o [] n l t n2 t2 a b
 
 -- the last of what was gathered is handed on
-pub stopped_at_end : (o n l t n2 : List ℕ) → Gathers o [] n l t → AddsPrefix n n2 l → AddsPrefix o n2 t
-stopped_at_end o n l t n2 a b = let P : List ℕ → Type 0 = λ x. AddsPrefix o n2 x in let Q : List ℕ → Type 0 = λ x. AddsPrefix n n2 x in
+pub stopped_at_end : (o n l t n2 : List ℕ) → Gathers o [] n l t → AddsPartOf l n n2 → AddsPartOf t o n2
+stopped_at_end o n l t n2 a b = let P : List ℕ → Type 0 = λ x. AddsPartOf x o n2 in let Q : List ℕ → Type 0 = λ x. AddsPartOf x n n2 in
     subst P (append-nil t) (adds_more o [] n l t n2 [] a (subst Q (sym (append-nil l)) b))

@@ -2,12 +2,12 @@
 ghost use Rattle.std.specs.Prelude.{◌≡◌, ℕ, List, [], ◌++◌, OnOk, IsTrue, flat_map};
 ghost use Rattle.std.specs.String.{string_bytes};
 ghost use Rattle.frs_disk.specs.Disk.{HasCause};
-ghost use Rattle.frs_text.specs.Sinks.{Gathers, AddsPrefix};
+ghost use Rattle.frs_disk.specs.Outside.{AddsPartOf};
+ghost use Rattle.frs_text.specs.Sinks.{Gathers};
 ghost use Rattle.frs_text.specs.Text.{event_line, ack_line};
 
 use crate::lines::{push_ack, push_event};
-use crate::sink::Sink;
-use frs_disk::Fault;
+use frs_disk::{Fault, Sink};
 use frs_history::{Ack, Event, Script};
 use std::alloc::Global;
 
@@ -16,8 +16,8 @@ const PIECE: usize = 65_536;
 
 // Hands what is gathered to the sink.
 fn write_gathered<S: Sink>(text: &mut String, sink: &mut S) -> Result<(), Fault>
-    ensures all { OnOk result (IsTrue (S.tells sink.old) → Gathers (S.bytes sink.old) (string_bytes text.old) (S.bytes sink.new) (string_bytes text.new) []) }
-    ensures part { IsTrue (S.tells sink.old) → AddsPrefix (S.bytes sink.old) (S.bytes sink.new) (string_bytes text.old) }
+    ensures all { OnOk result (IsTrue (S.tells sink.old) → Gathers (S.written sink.old) (string_bytes text.old) (S.written sink.new) (string_bytes text.new) []) }
+    ensures part { IsTrue (S.tells sink.old) → AddsPartOf (string_bytes text.old) (S.written sink.old) (S.written sink.new) }
     ensures told { S.tells sink.new ≡ S.tells sink.old }
     ensures cause { HasCause (S.faults sink.old) (S.faults sink.new) result }
     ensures empty { OnOk result (string_bytes text.new ≡ []) }
@@ -32,8 +32,8 @@ fn write_gathered<S: Sink>(text: &mut String, sink: &mut S) -> Result<(), Fault>
 
 // Hands what is gathered to the sink, where it is enough for a piece.
 fn write_full<S: Sink>(text: &mut String, sink: &mut S) -> Result<(), Fault>
-    ensures all { OnOk result (IsTrue (S.tells sink.old) → Gathers (S.bytes sink.old) (string_bytes text.old) (S.bytes sink.new) (string_bytes text.new) []) }
-    ensures part { IsTrue (S.tells sink.old) → AddsPrefix (S.bytes sink.old) (S.bytes sink.new) (string_bytes text.old) }
+    ensures all { OnOk result (IsTrue (S.tells sink.old) → Gathers (S.written sink.old) (string_bytes text.old) (S.written sink.new) (string_bytes text.new) []) }
+    ensures part { IsTrue (S.tells sink.old) → AddsPartOf (string_bytes text.old) (S.written sink.old) (S.written sink.new) }
     ensures told { S.tells sink.new ≡ S.tells sink.old }
     ensures cause { HasCause (S.faults sink.old) (S.faults sink.new) result }
 {
@@ -44,8 +44,8 @@ fn write_full<S: Sink>(text: &mut String, sink: &mut S) -> Result<(), Fault>
 }
 
 fn write_event<S: Sink>(text: &mut String, scripts: &[Script], event: &Event, sink: &mut S) -> Result<(), Fault>
-    ensures all { OnOk result (IsTrue (S.tells sink.old) → Gathers (S.bytes sink.old) (string_bytes text.old) (S.bytes sink.new) (string_bytes text.new) (event_line scripts.now event.now)) }
-    ensures part { IsTrue (S.tells sink.old) → AddsPrefix (S.bytes sink.old) (S.bytes sink.new) (string_bytes text.old ++ event_line scripts.now event.now) }
+    ensures all { OnOk result (IsTrue (S.tells sink.old) → Gathers (S.written sink.old) (string_bytes text.old) (S.written sink.new) (string_bytes text.new) (event_line scripts.now event.now)) }
+    ensures part { IsTrue (S.tells sink.old) → AddsPartOf (string_bytes text.old ++ event_line scripts.now event.now) (S.written sink.old) (S.written sink.new) }
     ensures told { S.tells sink.new ≡ S.tells sink.old }
     ensures cause { HasCause (S.faults sink.old) (S.faults sink.new) result }
 {
@@ -54,8 +54,8 @@ fn write_event<S: Sink>(text: &mut String, scripts: &[Script], event: &Event, si
 }
 
 fn write_ack<S: Sink>(text: &mut String, ack: &Ack, sink: &mut S) -> Result<(), Fault>
-    ensures all { OnOk result (IsTrue (S.tells sink.old) → Gathers (S.bytes sink.old) (string_bytes text.old) (S.bytes sink.new) (string_bytes text.new) (ack_line ack.now)) }
-    ensures part { IsTrue (S.tells sink.old) → AddsPrefix (S.bytes sink.old) (S.bytes sink.new) (string_bytes text.old ++ ack_line ack.now) }
+    ensures all { OnOk result (IsTrue (S.tells sink.old) → Gathers (S.written sink.old) (string_bytes text.old) (S.written sink.new) (string_bytes text.new) (ack_line ack.now)) }
+    ensures part { IsTrue (S.tells sink.old) → AddsPartOf (string_bytes text.old ++ ack_line ack.now) (S.written sink.old) (S.written sink.new) }
     ensures told { S.tells sink.new ≡ S.tells sink.old }
     ensures cause { HasCause (S.faults sink.old) (S.faults sink.new) result }
 {
@@ -64,8 +64,8 @@ fn write_ack<S: Sink>(text: &mut String, ack: &Ack, sink: &mut S) -> Result<(), 
 }
 
 fn write_events<S: Sink>(text: &mut String, scripts: &[Script], events: &[Event], sink: &mut S) -> Result<(), Fault>
-    ensures all { OnOk result (IsTrue (S.tells sink.old) → Gathers (S.bytes sink.old) (string_bytes text.old) (S.bytes sink.new) (string_bytes text.new) (flat_map (event_line scripts.now) events.now)) }
-    ensures part { IsTrue (S.tells sink.old) → AddsPrefix (S.bytes sink.old) (S.bytes sink.new) (string_bytes text.old ++ flat_map (event_line scripts.now) events.now) }
+    ensures all { OnOk result (IsTrue (S.tells sink.old) → Gathers (S.written sink.old) (string_bytes text.old) (S.written sink.new) (string_bytes text.new) (flat_map (event_line scripts.now) events.now)) }
+    ensures part { IsTrue (S.tells sink.old) → AddsPartOf (string_bytes text.old ++ flat_map (event_line scripts.now) events.now) (S.written sink.old) (S.written sink.new) }
     ensures told { S.tells sink.new ≡ S.tells sink.old }
     ensures cause { HasCause (S.faults sink.old) (S.faults sink.new) result }
 {
@@ -76,8 +76,8 @@ fn write_events<S: Sink>(text: &mut String, scripts: &[Script], events: &[Event]
 }
 
 fn write_acks<S: Sink>(text: &mut String, acks: &[Ack], sink: &mut S) -> Result<(), Fault>
-    ensures all { OnOk result (IsTrue (S.tells sink.old) → Gathers (S.bytes sink.old) (string_bytes text.old) (S.bytes sink.new) (string_bytes text.new) (flat_map ack_line acks.now)) }
-    ensures part { IsTrue (S.tells sink.old) → AddsPrefix (S.bytes sink.old) (S.bytes sink.new) (string_bytes text.old ++ flat_map ack_line acks.now) }
+    ensures all { OnOk result (IsTrue (S.tells sink.old) → Gathers (S.written sink.old) (string_bytes text.old) (S.written sink.new) (string_bytes text.new) (flat_map ack_line acks.now)) }
+    ensures part { IsTrue (S.tells sink.old) → AddsPartOf (string_bytes text.old ++ flat_map ack_line acks.now) (S.written sink.old) (S.written sink.new) }
     ensures told { S.tells sink.new ≡ S.tells sink.old }
     ensures cause { HasCause (S.faults sink.old) (S.faults sink.new) result }
 {
@@ -90,8 +90,8 @@ fn write_acks<S: Sink>(text: &mut String, acks: &[Ack], sink: &mut S) -> Result<
 /// Writes the lines of the events, in order, and then a line for each acknowledgement. The scripts are those of clients
 /// 1, 2, .. A fault of the sink, or want of memory, leaves a front of that text written.
 pub fn transcript<S: Sink>(alloc: Global, scripts: &[Script], events: &[Event], acks: &[Ack], sink: &mut S) -> Result<(), Fault>
-    ensures all { OnOk result (IsTrue (S.tells sink.old) → S.bytes sink.new ≡ S.bytes sink.old ++ (flat_map (event_line scripts.now) events.now ++ flat_map ack_line acks.now)) }
-    ensures part { IsTrue (S.tells sink.old) → AddsPrefix (S.bytes sink.old) (S.bytes sink.new) (flat_map (event_line scripts.now) events.now ++ flat_map ack_line acks.now) }
+    ensures all { OnOk result (IsTrue (S.tells sink.old) → S.written sink.new ≡ S.written sink.old ++ (flat_map (event_line scripts.now) events.now ++ flat_map ack_line acks.now)) }
+    ensures part { IsTrue (S.tells sink.old) → AddsPartOf (flat_map (event_line scripts.now) events.now ++ flat_map ack_line acks.now) (S.written sink.old) (S.written sink.new) }
     ensures told { S.tells sink.new ≡ S.tells sink.old }
     ensures cause { HasCause (S.faults sink.old) (S.faults sink.new) result }
 {

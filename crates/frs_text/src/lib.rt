@@ -4,13 +4,9 @@
 mod find;
 mod history_text;
 mod lines;
-mod name;
 mod plan;
-mod sink;
 mod text;
 
 
-pub use name::Name;
 pub use plan::{FileNames, Job, PlainPlan, Plan, RunPlan};
-pub use sink::Sink;
 pub use history_text::transcript;

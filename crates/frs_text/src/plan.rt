@@ -1,7 +1,7 @@
 //! What a command line asks for.
 ghost use Rattle.std.specs.Prelude.{◌≡◌};
 
-use crate::name::Name;
+use frs_disk::Name;
 use std::marker::Model;
 
 /// The names of script files, in the order of the clients. Contracts see the list of the names, each as the list of

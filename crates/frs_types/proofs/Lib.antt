@@ -1,1 +1,1 @@
--- No lemma yet.
+pub mod LogExamples

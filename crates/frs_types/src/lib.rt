@@ -14,3 +14,5 @@ pub use record::{Action, Entry, Record};
 pub use turn::{NoTurn, Turn};
 pub use word::{Key, MapId, Value, WordFault};
 
+#[cfg(test)]
+mod tests;

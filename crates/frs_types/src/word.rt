@@ -92,7 +92,8 @@ impl Model for Value {
 }
 
 impl MapId {
-    /// The id of these bytes.
+    /// The id of these bytes. `TooLong` where there are more than 64, `Empty` where there are none, and `Memory` where
+    /// there was none for it.
     pub fn new(alloc: Global, bytes: &[u8]) -> Result<MapId, WordFault>
         ensures refused { (fault : Fault) → word_fault 1 64 bytes.now ≡ Some fault → result ≡ Err fault }
         ensures made { word_fault 1 64 bytes.now ≡ None → MatchResult result (λ id. id ≡ bytes.now) (λ fault. fault ≡ WordFault.Memory) }
@@ -114,13 +115,14 @@ impl MapId {
     pub fn copy(&self, alloc: Global) -> Result<MapId, NoMemory>
         ensures { IfOk result (λ copy. copy ≡ self.now) }
     {
-        let word = self.word.as_slice().to_vec(alloc)?;
+        let word = copy_of(alloc, self.word.as_slice())?;
         Ok(MapId { word })
     }
 }
 
 impl Key {
-    /// The key of these bytes.
+    /// The key of these bytes. `TooLong` where there are more than 255, `Empty` where there are none, and `Memory`
+    /// where there was none for it.
     pub fn new(alloc: Global, bytes: &[u8]) -> Result<Key, WordFault>
         ensures refused { (fault : Fault) → word_fault 1 255 bytes.now ≡ Some fault → result ≡ Err fault }
         ensures made { word_fault 1 255 bytes.now ≡ None → MatchResult result (λ key. key ≡ bytes.now) (λ fault. fault ≡ WordFault.Memory) }
@@ -142,13 +144,14 @@ impl Key {
     pub fn copy(&self, alloc: Global) -> Result<Key, NoMemory>
         ensures { IfOk result (λ copy. copy ≡ self.now) }
     {
-        let word = self.word.as_slice().to_vec(alloc)?;
+        let word = copy_of(alloc, self.word.as_slice())?;
         Ok(Key { word })
     }
 }
 
 impl Value {
-    /// The value of these bytes, which may be none.
+    /// The value of these bytes, which may be none. `TooLong` where there are more than 65,535, and `Memory` where there
+    /// was none for it.
     pub fn new(alloc: Global, bytes: &[u8]) -> Result<Value, WordFault>
         ensures refused { (fault : Fault) → word_fault 0 65535 bytes.now ≡ Some fault → result ≡ Err fault }
         ensures made { word_fault 0 65535 bytes.now ≡ None → MatchResult result (λ value. value ≡ bytes.now) (λ fault. fault ≡ WordFault.Memory) }
@@ -169,7 +172,7 @@ impl Value {
     pub fn copy(&self, alloc: Global) -> Result<Value, NoMemory>
         ensures { IfOk result (λ copy. copy ≡ self.now) }
     {
-        let word = self.word.as_slice().to_vec(alloc)?;
+        let word = copy_of(alloc, self.word.as_slice())?;
         Ok(Value { word })
     }
 }
@@ -190,4 +193,11 @@ fn word_of(alloc: Global, bytes: &[u8], least: usize, most: usize) -> Result<Vec
         return Err(WordFault::Empty);
     }
     Ok(bytes.to_vec(alloc)?)
+}
+
+// The same bytes as a vector of their own.
+fn copy_of(alloc: Global, word: &[u8]) -> Result<Vec<u8>, NoMemory>
+    ensures { IfOk result (λ copy. copy.items ≡ word.now) }
+{
+    Ok(word.to_vec(alloc)?)
 }

@@ -6,7 +6,7 @@ ghost use Rattle.std.specs.FinMap.{get, from_entries, is_sorted};
 ghost use Rattle.std.specs.Ordering.{nat_cmp};
 ghost use Rattle.frs_disk.specs.Disk.{IsNumber, IsRestarted};
 ghost use Rattle.frs_disk.specs.Files.{AreDistinct, plain, image_of};
-ghost use Rattle.frs_disk.specs.Calls.{chosen};
+ghost use Rattle.frs_disk.specs.Calls.{chosen, IsAsSynced};
 ghost use Rattle.frs_disk.specs.Plans.{start_of, files_of, record_of, plan_of, faults_of, fails_at};
 
 use super::{Choice, FaultPlan, MemDisk};
@@ -50,6 +50,8 @@ impl MemDisk {
         ensures keep { choice ≡ Choice.Keep → IfOk result (λ disk. ⟦<MemDisk as Disk>⟧.reads disk ≡ ⟦<MemDisk as Disk>⟧.reads self.now) }
         ensures lose { choice ≡ Choice.Lose
             → IfOk result (λ disk. ⟦<MemDisk as Disk>⟧.reads disk ≡ chosen None (start_of self.now) (start_of self.now) (record_of self.now)) }
+        ensures lost { choice ≡ Choice.Lose
+            → IfOk result (λ disk. (n : ℕ) → IsAsSynced (start_of self.now) (⟦<MemDisk as Disk>⟧.reads disk) (record_of self.now) n) }
         ensures fill { (byte : ℕ) → choice ≡ Choice.Fill byte
             → IfOk result (λ disk. ⟦<MemDisk as Disk>⟧.reads disk ≡ chosen (Some byte) (start_of self.now) (start_of self.now) (record_of self.now)) }
         ensures restarted { IfOk result (IsRestarted ⟦<MemDisk as Disk>⟧.reads ⟦<MemDisk as Disk>⟧.may_leave ⟦<MemDisk as Disk>⟧.removing) }

@@ -9,5 +9,5 @@ invariant-loop-ack g l = record {
   told : g.S.Sink.tells l.sink ≡ g.S.Sink.tells l.fn.sink;
   cause : g.S.Sink.faults l.sink ≡ g.S.Sink.faults l.fn.sink;
   gathered : IsTrue (g.S.Sink.tells l.fn.sink)
-      → Gathers (g.S.Sink.bytes l.fn.sink) (string_bytes l.fn.text) (g.S.Sink.bytes l.sink) (string_bytes l.text) (flat_map ack_line (take l.ack-index l.acks));
+      → Gathers (g.S.Sink.written l.fn.sink) (string_bytes l.fn.text) (g.S.Sink.written l.sink) (string_bytes l.text) (flat_map ack_line (take l.ack-index l.acks));
 }

@@ -33,6 +33,8 @@ loop-at-preserved c =
 pub returns-clause-puts : goal.returns-clause-puts
 returns-clause-puts c =
     let held = c.args.held.now in
-    let end : c.loop-at.at ≡ length held = omega arith in
-    (omega arith, λ bytes. insert_last held c.loop-at.at (c.args.snapshot, c.args.segment) bytes c.loop-at.invariant end
-      ∙ ap (λ (n : ℕ). insert_at (shelved held) n ((c.args.snapshot, c.args.segment), bytes)) end)
+    let end : c.loop-at.at ≡ length held = omega arith in (
+      omega arith,
+      λ bytes. insert_last held c.loop-at.at (c.args.snapshot, c.args.segment) bytes c.loop-at.invariant end
+          ∙ ap (λ (n : ℕ). insert_at (shelved held) n ((c.args.snapshot, c.args.segment), bytes)) end,
+    )

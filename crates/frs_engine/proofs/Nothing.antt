@@ -1,0 +1,53 @@
+-- A disk without files shows no record, and a run that makes no change leaves nothing else.
+use Rattle.std.proofs.Common.{◌≡◌, ◌∙◌, ap, sym, refl, subst, arith, rules, ℕ, zero, suc, ◌≤◌, List, [], ◌∷◌, map, length}
+use Rattle.std.specs.Prelude.{◌==◌, Bool, true, Option, Some, None, IsSome}
+use Rattle.std.specs.Ordering.{nat_cmp}
+use Rattle.std.specs.FinMap.{FinMap, entries, empty, keys, get, get-empty, same_entries_map, entries-from_sorted}
+use Rattle.frs_disk.specs.Disk.{Image}
+use Rattle.frs_disk.specs.Choices.{image_of-none}
+use Rattle.frs_history.specs.declared.event.Ack.{Ack}
+use Rattle.frs_history.specs.Machine.{Changes}
+use Rattle.frs_engine.specs.Promise.{ShowsPuts, Shows, Survives}
+
+pub entries_empty : entries {X = List ℕ} {R = nat_cmp} empty ≡ []
+entries_empty = ap (λ (i : Image). entries i) (sym image_of-none) ∙ entries-from_sorted nat_cmp [] tt
+
+-- no numbers, no files
+none_by_map : {A B : Type 0} (f : A → B) (xs : List A) → map f xs ≡ [] → xs ≡ []
+none_by_map f [] is = refl
+none_by_map f (x ∷ xs) is = absurd (cc)
+
+pub empty_by_keys : (image : Image) → keys image ≡ [] → image ≡ empty
+empty_by_keys image none = same_entries_map image empty (none_by_map (λ (e : ℕ × List ℕ). e.0) (entries image) none ∙ sym entries_empty)
+
+pub keys_empty : (image : Image) → image ≡ empty → keys image ≡ []
+keys_empty image is = ap (λ (i : Image). keys i) is ∙ ap (map (λ (e : ℕ × List ℕ). e.0)) entries_empty
+
+pub none_there : (image : Image) (n : ℕ) → image ≡ empty → IsSome (get image n) → ⊥
+none_there image n is some = let there : IsSome (get (empty {X = List ℕ} {R = nat_cmp}) n) = subst (λ (i : Image). IsSome (get i n)) is some in
+    let gone : IsSome {T = List ℕ} None = subst (λ (o : Option (List ℕ)). IsSome o) (get-empty nat_cmp n) there in cc
+
+-- no file shows no record
+none_shown : (commits : List Changes) → ShowsPuts [] commits 0 0
+none_shown commits = record { one = omega arith; number = refl; segments = []; each = tt; follow = refl; newest = refl; lawful = refl; count = refl; maps = refl }
+
+pub empty_shown : (commits : List Changes) (image : Image) → image ≡ empty → ShowsPuts (entries image) commits 0 0
+empty_shown commits image is = subst (λ (files : List (ℕ × List ℕ)). ShowsPuts files commits 0 0) (sym (ap (λ (i : Image). entries i) is ∙ entries_empty)) (none_shown commits)
+
+pub nothing_survives : (commits : List Changes) (acks : List Ack) (left now : Image → Type 0) → acks ≡ [] → ((image : Image) → left image → image ≡ empty) → ((image : Image) → now image → image ≡ empty)
+    → Survives commits acks left now
+nothing_survives commits acks left now none before after = subst (λ (as_told : List Ack). Survives commits as_told left now) (sym none) (record {
+  crash = λ image is_left. (0, 0, empty_shown commits image (before image is_left));
+  durable = λ image is_now. (0, 0, refl, omega arith, empty_shown commits image (after image is_now));
+})
+
+-- a count of none
+zero_count : (n : ℕ) → (n == 0) ≡ true → n ≡ 0
+zero_count n test = search (rules, test)
+
+none_by_length : {A : Type 0} (xs : List A) → length xs ≡ 0 → xs ≡ []
+none_by_length [] is = refl
+none_by_length (x ∷ xs) is = absurd (omega (arith, is))
+
+pub none_counted : {A : Type 0} (xs : List A) (n : ℕ) (b : Bool) → n ≡ length xs → b ≡ (n == 0) → b ≡ true → xs ≡ []
+none_counted xs n b size is test = none_by_length xs (sym size ∙ zero_count n (sym is ∙ test))
