@@ -153,16 +153,19 @@ chunk_told offset next behind place rs fits e fill =
     and_from (leb 1 (length rs) && leb (length rs) 256 && leb (length (body rs)) (2 ^ 20)) (allowed_from place.first rs)
     (and_from (leb 1 (length rs) && leb (length rs) 256) (leb (length (body rs)) (2 ^ 20))
     (and_from (leb 1 (length rs)) (leb (length rs) 256) (le-leb _ _ (omega (arith, fill.count_is))) (le-leb _ _ (omega (arith, fill.count_is))))
-    (le-leb _ _ (omega (arith, len)))) fill.allowed in
-    (ap (λ (p : ChunkPlace). p.offset) t.place_is, ap (λ (p : ChunkPlace). p.first) t.place_is, record {
-      gate = gate;
-      rest = rest;
-      spelled = ap (λ (x : List ℕ). 1 ∷ x) parts ∙ sym (chunk_parts_is place.first rs (gate ∷ rest));
-      count_is = fill.count_is;
-      body_is = len;
-      chunk = is;
-      within = omega (arith, fill.count_is, within);
-    })
+    (le-leb _ _ (omega (arith, len)))) fill.allowed in (
+      ap (λ (p : ChunkPlace). p.offset) t.place_is,
+      ap (λ (p : ChunkPlace). p.first) t.place_is,
+      record {
+        gate = gate;
+        rest = rest;
+        spelled = ap (λ (x : List ℕ). 1 ∷ x) parts ∙ sym (chunk_parts_is place.first rs (gate ∷ rest));
+        count_is = fill.count_is;
+        body_is = len;
+        chunk = is;
+        within = omega (arith, fill.count_is, within);
+      },
+    )
 
 -- the tests that a chunk's records pass
 pub record Passes (first : ℕ) (rs : List Record) : Type 0 where
@@ -210,9 +213,9 @@ not_refused offset first behind rs gate rest fault e is within refuses =
     elim refuses [
       | inl failed ↦ absurd (cc (head.0, failed))
       | inr (place, told, fault_is, none) ↦
-      let place_is : place_of offset first rs ≡ place = ok_is (place_of offset first rs) place (sym head.0 ∙ told) in
-      let fill : FillBody (place_of offset first rs) (take (length (body rs)) (drop 16 behind)) rs = record { spelled = head.1; count_is = refl; allowed = (chunk_passes first rs is).all } in
-      none rs (subst (λ (p : ChunkPlace). FillBody p (take p.body (drop 16 behind)) rs) place_is fill)
+          let place_is : place_of offset first rs ≡ place = ok_is (place_of offset first rs) place (sym head.0 ∙ told) in
+          let fill : FillBody (place_of offset first rs) (take (length (body rs)) (drop 16 behind)) rs = record { spelled = head.1; count_is = refl; allowed = (chunk_passes first rs is).all } in
+          none rs (subst (λ (p : ChunkPlace). FillBody p (take p.body (drop 16 behind)) rs) place_is fill)
     ]
 
 -- ---- what a call answers

@@ -204,7 +204,7 @@ reach_more file first places offset next place r is told =
       chunks = new_chunks;
       header_is = r.header_is;
       spelled = r.spelled ∙ ap (λ (x : List ℕ). old ++ x) here ∙ sym (append_assoc old (chunk_bytes place.first rs) (chunk.gate ∷ chunk.rest))
-      ∙ ap (λ (x : List ℕ). x ++ chunk.gate ∷ chunk.rest) (sym new_spelling) ∙ ap (λ (x : List ℕ). segment_spelling (meant file first new_chunks) ++ x) (sym behind);
+          ∙ ap (λ (x : List ℕ). x ++ chunk.gate ∷ chunk.rest) (sym new_spelling) ∙ ap (λ (x : List ℕ). segment_spelling (meant file first new_chunks) ++ x) (sym behind);
       offset_is = sym new_len;
       next_is = omega (arith, r.next_is, more_records, chunk.count_is);
       places_are = ap (λ (x : List ChunkPlace). x ++ place ∷ []) r.places_are ∙ ap (λ (p : ChunkPlace). places_from 22 first r.chunks ++ p ∷ []) (sym place_is) ∙ sym (places_from-append 22 first r.chunks rs);
@@ -219,19 +219,22 @@ pub reach_end : (file : File) (first : ℕ) (places : List ChunkPlace) (offset n
 reach_end file first places offset next found r closed is below =
     let s = meant file first r.chunks in
     let h = header_told file first r.header_is in
-    let gate = get_or file.1 offset 0 in
-    (s, record {
-      number = refl;
-      gate = gate;
-      rest = drop (offset + 1) file.1;
-      closed = not_from_false (eqb gate 1) (ne_eqb gate 1 closed);
-      bytes = r.spelled ∙ ap (λ (x : List ℕ). segment_spelling s ++ x) (at_gate file.1 offset gate r.inside refl);
-      chunks = r.all;
-      starts = and_from (leb 1 first) (ltb first (2 ^ 62)) (le-leb _ _ h.some) (lt-ltb _ _ h.below);
-      within = and_from (leb (end_of s) (2 ^ 62)) (ltb file.0 (2 ^ 62)) (le-leb _ _ (omega (arith, r.within, r.next_is))) (lt-ltb _ _ below);
-    }, is ∙ ap (λ (n : ℕ). record { number = file.0; first = first; «end» = n; length = offset + 1; chunks = places }) r.next_is
-    ∙ ap (λ (n : ℕ). record { number = file.0; first = first; «end» = end_of s; length = n + 1; chunks = places }) r.offset_is
-    ∙ ap (λ (x : List ChunkPlace). record { number = file.0; first = first; «end» = end_of s; length = length (segment_spelling s) + 1; chunks = x }) r.places_are)
+    let gate = get_or file.1 offset 0 in (
+      s,
+      record {
+        number = refl;
+        gate = gate;
+        rest = drop (offset + 1) file.1;
+        closed = not_from_false (eqb gate 1) (ne_eqb gate 1 closed);
+        bytes = r.spelled ∙ ap (λ (x : List ℕ). segment_spelling s ++ x) (at_gate file.1 offset gate r.inside refl);
+        chunks = r.all;
+        starts = and_from (leb 1 first) (ltb first (2 ^ 62)) (le-leb _ _ h.some) (lt-ltb _ _ h.below);
+        within = and_from (leb (end_of s) (2 ^ 62)) (ltb file.0 (2 ^ 62)) (le-leb _ _ (omega (arith, r.within, r.next_is))) (lt-ltb _ _ below);
+      },
+      is ∙ ap (λ (n : ℕ). record { number = file.0; first = first; «end» = n; length = offset + 1; chunks = places }) r.next_is
+          ∙ ap (λ (n : ℕ). record { number = file.0; first = first; «end» = end_of s; length = n + 1; chunks = places }) r.offset_is
+          ∙ ap (λ (x : List ChunkPlace). record { number = file.0; first = first; «end» = end_of s; length = length (segment_spelling s) + 1; chunks = x }) r.places_are,
+    )
 
 -- or is refused where no chunk stands behind an open gate
 reach_refused : (file : File) (first : ℕ) (places : List ChunkPlace) (offset next : ℕ) (fault : ScanFault) → Reached file first places offset next → get_or file.1 offset 0 ≡ 1 → RefusesChunk offset next (drop (offset + 1) file.1) fault → IsRefused file fault

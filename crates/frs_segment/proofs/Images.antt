@@ -103,6 +103,7 @@ further image a b l k p q m older looked = at m older (apart m p.looked b (subst
       where
         back_is : parts.back ≡ a
         back_is = same_segments p.looked parts.back a parts.back_zip p.each
+
         at_start : (front : List Segment) → AllZip IsSegment (f ∷ m) front → b ≡ front ++ parts.back → b ≡ a
         at_start [] zip is = absurd zip
         at_start (s ∷ front) zip is =

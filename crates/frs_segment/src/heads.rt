@@ -19,7 +19,7 @@ const HEAD: usize = 16;
 // The most records of a chunk, and the most bytes of its body.
 const MOST_RECORDS: u32 = 256;
 
-const MOST_BODY: u32 = 1 << 20;
+pub(crate) const MOST_BODY: u32 = 1 << 20;
 
 // The number of four bytes at an offset.
 fn u32_at(bytes: &[u8], at: usize) -> u32

@@ -10,7 +10,7 @@ ghost use Rattle.frs_segment.specs.Faults.{HasDiskCause, Gives};
 ghost use Rattle.frs_segment.specs.Scanning.{head_of, described, IsChunk, IsRefused, IsCauseIn, IsFaultAt, RefusesPlace};
 
 use crate::fault::ScanFault;
-use crate::heads::head_at;
+use crate::heads::{MOST_BODY, head_at};
 use crate::layout::{ChunkPlace, Segment};
 use crate::records::records_of;
 use crate::scanning::segment_in;
@@ -101,6 +101,11 @@ pub fn read_chunk<D: Disk>(
     ensures time { Elapses D.moment D.left_since D.may_leave disk.old disk.new }
     ensures cause { HasDiskCause (D.faults disk.old) (D.faults disk.new) result }
 {
+    if place.body > MOST_BODY {
+        return Err(ScanFault::BadChunk {
+            offset: place.offset,
+        });
+    }
     let room = 18 + u64::from(place.body);
     let text = disk.read(alloc, number, place.offset, room)?;
     chunk_in(alloc, text.as_slice(), place)

@@ -38,11 +38,7 @@ pub(crate) fn records_of(
 }
 
 // The record at the front that may have this LSN, and where it ends.
-fn record_at(
-    alloc: Global,
-    bytes: &[u8],
-    lsn: u64,
-) -> Result<Option<(Record, usize)>, NoMemory>
+fn record_at(alloc: Global, bytes: &[u8], lsn: u64) -> Result<Option<(Record, usize)>, NoMemory>
     ensures { IfOk result (TellsRecord bytes.now lsn) }
 {
     match decode(alloc, bytes) {

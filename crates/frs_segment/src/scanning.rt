@@ -35,12 +35,7 @@ pub(crate) fn segment_in(alloc: Global, number: u64, bytes: &[u8]) -> Result<Seg
 }
 
 // The place of the chunk behind the open gate at the offset, whose first LSN should be the next one.
-fn chunk_at(
-    alloc: Global,
-    bytes: &[u8],
-    offset: usize,
-    next: u64,
-) -> Result<ChunkPlace, ScanFault>
+fn chunk_at(alloc: Global, bytes: &[u8], offset: usize, next: u64) -> Result<ChunkPlace, ScanFault>
     requires { offset < length bytes.now }
     ensures told { TellsChunk offset next (drop (offset + 1) bytes.now) result }
     ensures there { IfOk result (λ place. offset + (17 + place.body) < length bytes.now) }
