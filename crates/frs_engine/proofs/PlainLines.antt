@@ -74,10 +74,11 @@ word_at-takes e bytes w rest read =
     let lt : n < length bytes = ltb-true n (length bytes) ends.0 in
     let size : length (take n bytes) ≡ n = length-take-le n bytes (omega arith) in
     let is : get_or bytes n 0 ≡ e = search (rules, ends.1) in
-    let long : nat_lt 0 (length w) ≡ true = ap (λ (l : List ℕ). nat_lt 0 (length l)) (sym some) ∙ ap (nat_lt 0) size ∙ tests.0 in
-    (and_from _ _ long (ap (list_all is_plain) (sym some) ∙ take-prefix_len is_plain bytes),
-    sym (take-append-drop n bytes) ∙ ap (λ (l : List ℕ). take n bytes ++ l) (drop_more bytes n 0 lt ∙ ap (λ (b : ℕ). b ∷ drop (n + 1) bytes) is)
-    ∙ ap (λ (l : List ℕ). l ++ e ∷ drop (n + 1) bytes) some ∙ ap (λ (l : List ℕ). w ++ e ∷ l) behind)
+    let long : nat_lt 0 (length w) ≡ true = ap (λ (l : List ℕ). nat_lt 0 (length l)) (sym some) ∙ ap (nat_lt 0) size ∙ tests.0 in (
+      and_from _ _ long (ap (list_all is_plain) (sym some) ∙ take-prefix_len is_plain bytes),
+      sym (take-append-drop n bytes) ∙ ap (λ (l : List ℕ). take n bytes ++ l) (drop_more bytes n 0 lt ∙ ap (λ (b : ℕ). b ∷ drop (n + 1) bytes) is)
+          ∙ ap (λ (l : List ℕ). l ++ e ∷ drop (n + 1) bytes) some ∙ ap (λ (l : List ℕ). w ++ e ∷ l) behind,
+    )
 
 -- ---- one line
 
@@ -265,6 +266,7 @@ rises_counted low (l ∷ script) counted =
     head_or : ℕ → List ℕ → ℕ
     head_or d [] = d
     head_or d (x ∷ xs) = x
+
     tail : List ℕ → List ℕ
     tail [] = []
     tail (x ∷ xs) = xs

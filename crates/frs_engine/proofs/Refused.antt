@@ -19,14 +19,19 @@ not_run e refused run = ⊎_elim (λ is. ⊎_elim (λ r. apart_later (sym r ∙ 
   where
     apart_later : Later ≡ Closed → ⊥
     apart_later h = cc
+
     apart_unread : Unread ≡ Closed → ⊥
     apart_unread h = cc
+
     apart_memory : Memory ≡ Closed → ⊥
     apart_memory h = cc
+
     apart_later_disk : Later ≡ Disk → ⊥
     apart_later_disk h = cc
+
     apart_unread_disk : Unread ≡ Disk → ⊥
     apart_unread_disk h = cc
+
     apart_memory_disk : Memory ≡ Disk → ⊥
     apart_memory_disk h = cc
 

@@ -136,12 +136,7 @@ fn run_on<D: Disk>(alloc: Global, disk: &mut D, script: Script) -> Outcome
 }
 
 // What a run of the plan does, before anything is printed.
-fn attempt<D: Disk, F: Files>(
-    alloc: Global,
-    plan: &RunPlan,
-    disk: &mut D,
-    files: &mut F,
-) -> Outcome
+fn attempt<D: Disk, F: Files>(alloc: Global, plan: &RunPlan, disk: &mut D, files: &mut F) -> Outcome
     requires { IsTrue (D.tells disk.old) → NoneRemovedAbove D.reads D.removing disk.old }
 
     ensures run { IsRun (status_of result.ending) (F.tells files.old) (bytes_of_plan plan.now (F.file files.old))
@@ -172,7 +167,14 @@ fn attempt<D: Disk, F: Files>(
 /// The status is 0 where all was done, 3 where the disk failed, 5 where the file wasn't read, 6 where the sink failed
 /// after a run that was whole, 9 where there was no memory, and 10 where there isn't one file, or it isn't in the form,
 /// or the disk lists a file.
-pub fn frs_run<R: Threads + Wait + Sync, D: Disk + Send, F: Files, H: Shelf + Send, S: Sink, T: Turn + Sync>(
+pub fn frs_run<
+    R: Threads + Wait + Sync,
+    D: Disk + Send,
+    F: Files,
+    H: Shelf + Send,
+    S: Sink,
+    T: Turn + Sync,
+>(
     _rt: &R,
     alloc: Global,
     plan: &RunPlan,

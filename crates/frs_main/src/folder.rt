@@ -7,11 +7,10 @@ ghost use Rattle.frs_disk.specs.Disk.{IsNumber, HasCause};
 use crate::cause::answer;
 use frs_disk::{Disk, Fault};
 use std::alloc::{AllocError, Global};
-use std::fs;
 use std::fs::{File, OpenOptions};
-use std::io;
 use std::io::ErrorKind;
 use std::os::unix::fs::FileExt;
+use std::{fs, io};
 
 /// A folder of segment files. It doesn't tell what it holds.
 ///

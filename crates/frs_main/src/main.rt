@@ -5,7 +5,6 @@ mod cause;
 mod files;
 mod folder;
 mod out;
-
 #[cfg(test)]
 mod tests;
 
@@ -15,12 +14,11 @@ use frs_disk::{MemShelf, Name, Sink};
 use frs_engine::{FileNames, RunPlan, frs_run};
 use frs_types::{NoMemory, NoTurn};
 use out::OutSink;
-use std::env;
-use std::io;
 use std::io::ErrorKind;
 use std::process::ExitCode;
 use std::sync::Wait;
 use std::thread::Threads;
+use std::{env, io};
 
 /// The status where there was no memory.
 const OUT_OF_MEMORY: u8 = 9;

@@ -4,11 +4,9 @@ use crate::folder::FolderDisk;
 use crate::out::OutSink;
 use frs_disk::{Disk, Fault, Files, Name, Sink};
 use std::alloc::Global;
-use std::env;
-use std::fs;
 use std::fs::File;
-use std::io;
 use std::test::Fail;
+use std::{env, fs, io};
 
 // A new folder of its own for a test.
 fn new_folder(rt: &HostRuntime, name: &str) -> io::Result<String> {
@@ -33,13 +31,14 @@ fn is_a_disk(alloc: Global, disk: &mut FolderDisk) -> Result<bool, Fault> {
     let twice = disk.create(3);
     disk.remove(3)?;
     let gone = disk.length(3);
-    Ok(none
-        && length == 5
-        && bytes.as_slice() == b"bxyz".as_slice()
-        && numbers.as_slice() == [3].as_slice()
-        && twice == Err(Fault::Failed)
-        && gone == Err(Fault::Failed)
-        && disk.count() == 2)
+    Ok(
+        none && length == 5
+            && bytes.as_slice() == b"bxyz".as_slice()
+            && numbers.as_slice() == [3].as_slice()
+            && twice == Err(Fault::Failed)
+            && gone == Err(Fault::Failed)
+            && disk.count() == 2,
+    )
 }
 
 #[test]

@@ -5,8 +5,8 @@ use Rattle.frs_engine.proofs.plain.plain_len.Goals as goal
 
 pub loop-len-preserved : goal.loop-len-preserved
 loop-len-preserved c = (
-    omega arith,
-    omega (arith, prefix_len-drop_yes is_plain c.args.bytes.now c.loop-len.len 0 c.loop-len-test.true (sym c.is_plain_byte.ensures ∙ c.if-is_plain_byte.true), c.loop-len.invariant.1)
+  omega arith,
+  omega (arith, prefix_len-drop_yes is_plain c.args.bytes.now c.loop-len.len 0 c.loop-len-test.true (sym c.is_plain_byte.ensures ∙ c.if-is_plain_byte.true), c.loop-len.invariant.1),
 )
 
 pub returns-after-loop-len : goal.returns-after-loop-len
