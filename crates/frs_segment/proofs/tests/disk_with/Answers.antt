@@ -11,7 +11,7 @@ use Rattle.frs_segment.proofs.tests.disk_with.Goals as goal
 one_file : (image : Image) (files : List (ℕ × Vec ℕ Global)) (bytes : Vec ℕ Global) → image ≡ from_entries (plain files) → files ≡ (1, bytes) ∷ [] → IsSome (get image 1)
 one_file image files bytes reads is =
     let e : get image 1 ≡ find nat_cmp 1 ((1, bytes.items) ∷ []) = ap (λ (i : Image). get i 1) (reads ∙ ap (λ (f : List (ℕ × Vec ℕ Global)). from_entries {R = nat_cmp} (plain f)) is) ∙ get-from_entries nat_cmp_total ((1, bytes.items) ∷ []) 1 in
-    subst IsSome (sym e) tt
+    subst IsSome (sym e) refl
 
 pub returns : goal.returns
 returns c =
