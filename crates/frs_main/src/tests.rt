@@ -6,13 +6,13 @@ use frs_disk::{Disk, Fault, Files, Name, Sink};
 use std::alloc::Global;
 use std::fs::File;
 use std::test::Fail;
-use std::{env, fs, io};
+use std::{env, fs, io, process};
 
 // A new folder of its own for a test.
 fn new_folder(rt: &HostRuntime, name: &str) -> io::Result<String> {
-    let process = rt.process().id();
+    let process = process::id(rt.process());
     let parent = env::temp_dir(rt)?;
-    let parent = parent.as_path().to_str();
+    let parent = parent.as_path().to_str().unwrap_or(".");
     let path = format!(in rt.alloc(); "{parent}/frs-{name}-{process}")?;
     fs::create_dir(rt, path.as_str())?;
     Ok(path)
