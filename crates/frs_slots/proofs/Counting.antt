@@ -2,7 +2,7 @@
 use Rattle.std.proofs.Common.{◌≡◌, ℕ, ◌+◌, ◌≤◌, max, List, [], ◌∷◌, ◌++◌, length, sym, ◌∙◌, ap, subst, arith, length-append}
 use Rattle.std.proofs.Math.Nat.{le-max_left, le-max_right, max-le}
 use mathlib.Core.List.{IsPrefix}
-use Rattle.rtrb.specs.Ring.{sent, known_free, producer_capacity}
+use Rattle.rtrb.specs.Ring.{known_free, producer_capacity}
 use Rattle.frs_slots.specs.Names.{Pushes}
 
 pub free_within : (p : Pushes) → known_free p ≤ producer_capacity p

@@ -1,5 +1,5 @@
 -- How the ends of a ring are seen, and what always holds of what they keep.
-use Rattle.std.specs.Prelude.{◌≡◌, ℕ, ◌+◌, ◌<◌, ◌≤◌, ◌^◌, length}
+use Rattle.std.specs.Prelude.{◌≡◌, ◌+◌, ◌≤◌, ◌^◌, length}
 use Rattle.rtrb.specs.Ring.{sent, known_free, producer_capacity, received, known_items}
 use Rattle.frs_slots.specs.declared.drawer.Drawer.TheInside as drawer
 use Rattle.frs_slots.specs.declared.taker.Taker.TheInside as taker

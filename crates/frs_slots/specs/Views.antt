@@ -1,5 +1,5 @@
 -- What contracts see of the two ends of a ring, and of a slip or a receipt.
-use Rattle.std.specs.Prelude.{◌≡◌, ℕ, ◌+◌, ◌-◌, ◌==◌, ◌<◌, ◌≤◌, max, List, [], ◌∷◌, ◌++◌, length, if◌then◌else◌}
+use Rattle.std.specs.Prelude.{◌≡◌, ℕ, ◌+◌, ◌-◌, ◌<◌, ◌≤◌, max, List, [], ◌∷◌, ◌++◌, length}
 
 -- the numbers by which a ring is told from every other: what uses them only asks whether two are equal
 abbrev pub Ring : Type 0
@@ -69,7 +69,3 @@ pub record Took (before : TakerView) (bytes : List ℕ) (now : TakerView) : Type
   pub taken : now.taken ≡ before.taken ++ bytes ∷ []
   pub sure : now.sure ≡ max before.sure (length now.taken)
   pub known : (before.known ≤ now.known) × (length now.taken ≤ now.known)
-
--- a taker that was given the receipt of an LSN: it counts where it is the next one in order
-abbrev pub learned : ℕ → TakerView → TakerView
-learned lsn t = if lsn == t.first + t.sure then record t { sure = t.sure + 1 } else t

@@ -1,7 +1,7 @@
 // The end of the ring that takes records in the order of their LSNs.
-ghost use Rattle.std.specs.Prelude.{◌≡◌, ◌+◌, ◌<◌, ◌≤◌, ◌^◌, [], length, IsOk, IfOk, IfErr};
+ghost use Rattle.std.specs.Prelude.{◌≡◌, ◌≢◌, ◌+◌, ◌<◌, ◌≤◌, ◌^◌, [], length, IsOk, IfOk, IfErr};
 ghost use Rattle.rtrb.specs.Ring.{received, known_items};
-ghost use Rattle.frs_slots.specs.Views.{next_taken, learned, Took};
+ghost use Rattle.frs_slots.specs.Views.{next_taken, Took};
 ghost use Rattle.frs_slots.specs.Names.{pops_from};
 
 use crate::END;
@@ -80,7 +80,8 @@ impl Taker {
     /// `first + sure`, and nothing else changes. Takes no memory.
     pub fn learn(&mut self, filled: Filled)
         requires { filled.ring ≡ self.old.ring }
-        ensures { self.new ≡ learned filled.lsn self.old }
+        ensures in_order { filled.lsn ≡ self.old.first + self.old.sure → self.new ≡ record self.old { sure = self.old.sure + 1 } }
+        ensures other { filled.lsn ≢ self.old.first + self.old.sure → self.new ≡ self.old }
     {
         if filled.lsn() == self.first + self.sure {
             self.sure += 1;

@@ -29,7 +29,13 @@ fn a_full_ring_is_emptied_and_renewed(rt: HostRuntime) -> Result<(), Fail> {
     drawer.draw(begin).expect(&rt, "room").fill();
     assert_eq!(rt; drawer.next(), 2);
     drawer.draw(commit).expect(&rt, "room").fill();
-    let refused = drawer.draw(mark).err().ok_or("a third slot")?;
+    let refused = match drawer.draw(mark) {
+        Ok(slip) => {
+            slip.fill();
+            panic!(rt; "a third record has room for two")
+        }
+        Err(refused) => refused,
+    };
     assert_eq!(rt; (refused.drawn, refused.known_taken), (2, 0));
     assert_eq!(rt; taker.take()?.bytes()[0], 4);
     assert_eq!(rt; drawer.next(), 3);

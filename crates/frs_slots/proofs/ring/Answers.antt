@@ -1,5 +1,5 @@
 -- The two ends are those of a pair.
-use Rattle.std.proofs.Common.{refl, ap, ◌∙◌, sym}
+use Rattle.std.proofs.Common.{ap, ◌∙◌, sym}
 use Rattle.frs_slots.specs.Views.{DrawerView, TakerView}
 use Rattle.frs_slots.proofs.Naming.{pair_named}
 use Rattle.frs_slots.proofs.ring.Goals as goal

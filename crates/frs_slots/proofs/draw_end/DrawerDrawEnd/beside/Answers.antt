@@ -1,6 +1,6 @@
 -- Both ends stay on their ring, and what was popped and what is in the ring is what was pushed.
-use Rattle.std.proofs.Common.{◌≡◌, ◌≤◌, ◌++◌, ◌+◌, length, sym, ◌∙◌, ap, arith, length-append}
-use Rattle.rtrb.specs.Ring.{sent, received, known_items}
+use Rattle.std.proofs.Common.{length, sym, ◌∙◌, ap, arith, length-append}
+use Rattle.rtrb.specs.Ring.{received, known_items}
 use Rattle.frs_slots.specs.Views.{DrawerView, TakerView}
 use Rattle.frs_slots.proofs.Naming.{is_pair, still_paired, seen_paired, drawer_kept, taker_kept}
 use Rattle.frs_slots.proofs.Counting.{longer}

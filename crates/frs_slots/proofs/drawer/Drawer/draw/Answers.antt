@@ -1,5 +1,5 @@
 -- The record was pushed behind the others, on the same ring.
-use Rattle.std.proofs.Common.{◌≡◌, ℕ, ◌+◌, [], ◌∷◌, ◌++◌, length, ap, ◌∙◌, arith}
+use Rattle.std.proofs.Common.{[], ◌∷◌, ◌++◌, ap, ◌∙◌, arith}
 use Rattle.frs_slots.specs.Views.{DrawerView, next_drawn}
 use Rattle.frs_slots.specs.Names.{Pushes, pushes_on}
 use Rattle.frs_slots.proofs.Naming.{pushes_kept}

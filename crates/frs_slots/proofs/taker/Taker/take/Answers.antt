@@ -1,5 +1,5 @@
 -- A pop takes the next item, and the counts follow.
-use Rattle.std.proofs.Common.{◌≡◌, ◌≤◌, ◌+◌, ◌-◌, ◌^◌, max, ◌∷◌, length, ap, ◌∙◌, refl, arith}
+use Rattle.std.proofs.Common.{◌≡◌, ◌+◌, ◌-◌, max, ◌∷◌, length, ap, ◌∙◌, refl, arith}
 use Rattle.rtrb.specs.Ring.{received, known_items}
 use Rattle.frs_slots.proofs.Counting.{longer, one_longer, left_within, right_within, greater_within}
 use Rattle.frs_slots.proofs.Naming.{taker_kept, pops_kept}
