@@ -1,0 +1,139 @@
+// The end of the ring that draws LSNs.
+ghost use Rattle.std.specs.Prelude.{◌≡◌, ◌+◌, ◌<◌, ◌≤◌, ◌^◌, ◌↔◌, [], length, IsNone, IsOk, IsTrue, IfOk, IfErr, IfSome};
+ghost use Rattle.rtrb.specs.Ring.{sent, known_free, producer_capacity};
+ghost use Rattle.frs_slots.specs.Views.{next_drawn, outstanding, HasRoom, Looked, Drew};
+ghost use Rattle.frs_slots.specs.Names.{pushes_on};
+
+use crate::slot::{OfRing, Slip};
+use frs_frame::Framed;
+use rtrb::Producer;
+use std::fmt;
+use std::marker::Model;
+
+/// The end of the ring that draws: it gives each record the next LSN.
+/// Contracts see it as the name of its ring, its first LSN, its capacity, the bytes of the records that were drawn, and
+/// how many of these it knows as taken.
+#[derive(Drop)]
+pub struct Drawer {
+    pub(crate) producer: Producer<Framed>,
+    pub(crate) first: u64,
+    pub(crate) next: u64,
+    capacity: u32,
+    pub(crate) known_taken: u64,
+}
+
+impl Model for Drawer {
+    ghost use Rattle.frs_slots.specs.Views.{DrawerView};
+
+    ghost Value = { DrawerView };
+
+    ghost use Rattle.frs_slots.specs.Ends.{drawer_seen, DrawerCounts};
+
+    ghost view = { drawer_seen };
+
+    ghost invariant = { DrawerCounts };
+}
+
+/// The ring is full: by what the drawer knows, as many records are drawn and not taken as the ring holds.
+#[derive(Debug, Drop)]
+pub struct NoRoom {
+    /// The record that has found no room.
+    pub framed: Framed,
+    /// How many records were drawn.
+    pub drawn: u64,
+    /// How many of them are known to be taken.
+    pub known_taken: u64,
+}
+
+impl fmt::Display for NoRoom {
+    fn fmt<W: fmt::Write>(&self, f: &mut fmt::Formatter<W>) -> fmt::Result {
+        write!(
+            f,
+            "no room: {} drawn, {} known as taken",
+            self.drawn, self.known_taken
+        )
+    }
+}
+
+impl std::error::Error for NoRoom {}
+
+impl Drawer {
+    // The end of a ring on which nothing was pushed.
+    pub(crate) fn new(producer: Producer<Framed>, capacity: u32, first: u64) -> Drawer
+        requires empty { (sent producer ≡ []) × (known_free producer ≡ capacity) × (producer_capacity producer ≡ capacity) }
+        requires in_range { (capacity ≤ 4096) × (1 ≤ first) × (first ≤ 2 ^ 62) }
+        ensures { result ≡ record { ring = pushes_on producer; first = first; capacity = capacity; drawn = []; known_taken = 0 } }
+    {
+        Drawer {
+            producer,
+            first,
+            next: first,
+            capacity,
+            known_taken: 0,
+        }
+    }
+
+    /// The LSN of the next record to be drawn, from 1 to 2^62.
+    pub fn next(&self) -> u64
+        ensures next { result ≡ next_drawn self.now }
+        ensures in_range { (1 ≤ result) × (result ≤ 2 ^ 62) }
+        ensures counts { (self.now.known_taken ≤ length self.now.drawn) × (outstanding self.now ≤ self.now.capacity) }
+    {
+        self.next
+    }
+
+    /// Draws the next LSN for a record, which has to be below 2^62. Wherever there is room by what the drawer knows, it
+    /// answers the slip for it. `NoRoom` comes only where the drawer has looked and the ring is full by what it then
+    /// knows; nothing is drawn. Takes no memory.
+    pub fn draw(&mut self, framed: Framed) -> Result<Slip, NoRoom>
+        requires { next_drawn self.old < 2 ^ 62 }
+        ensures drawn { IfOk result (λ slip. Drew self.old framed self.new × (slip.lsn ≡ next_drawn self.old) × (slip.ring ≡ self.old.ring)) }
+        ensures full { IfErr result (λ refused. Looked self.old self.new × (refused ≡ record { framed = framed; drawn = length self.old.drawn; known_taken = self.new.known_taken }) × (outstanding self.new ≡ self.new.capacity)) }
+        ensures room { HasRoom self.old → IsOk result }
+    {
+        if let Some((drawn, known_taken)) = self.room() {
+            return Err(NoRoom {
+                framed,
+                drawn,
+                known_taken,
+            });
+        }
+        let lsn = self.next;
+        self.producer.push_reserved(framed);
+        self.next += 1;
+        Ok(Slip::new(lsn, OfRing::of(&self.producer)))
+    }
+
+    /// Whether the next `draw` finds room: None exactly where there is room by what the drawer then knows, and that
+    /// `draw` then answers a slip. Otherwise the number of records drawn and the number known as taken, as `NoRoom` has
+    /// them. It may learn that more was taken, and changes nothing else. Takes no memory.
+    pub fn room(&mut self) -> Option<(u64, u64)>
+        ensures looked { Looked self.old self.new }
+        ensures room { IsNone result ↔ HasRoom self.new }
+        ensures full { IfSome result (λ numbers. (numbers.0 ≡ length self.new.drawn) × (numbers.1 ≡ self.new.known_taken) × (outstanding self.new ≡ self.new.capacity)) }
+    {
+        if self.is_full() {
+            self.look();
+        }
+        if self.is_full() {
+            Some((self.next - self.first, self.known_taken))
+        } else {
+            None
+        }
+    }
+
+    // Whether there is no room by what the drawer knows.
+    fn is_full(&self) -> bool
+        ensures { IsTrue result ↔ (outstanding self.now ≡ self.now.capacity) }
+    {
+        self.next - self.first - self.known_taken == u64::from(self.capacity)
+    }
+
+    // Looks how much was taken.
+    fn look(&mut self)
+        ensures { Looked self.old self.new }
+    {
+        let free = self.producer.slots() as u64;
+        self.known_taken = self.next - self.first + free - u64::from(self.capacity);
+    }
+}
