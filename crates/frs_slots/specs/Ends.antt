@@ -17,7 +17,7 @@ pub record DrawerCounts (a : drawer.Inside) : Type 0 where
   pub next : a.next ≡ a.first + length (sent a.producer)
   pub least : 1 ≤ a.first
   pub most : a.next ≤ 2 ^ 62
-  pub capacity : (producer_capacity a.producer ≡ a.capacity) × (a.capacity ≤ 4096)
+  pub capacity : (producer_capacity a.producer ≡ a.capacity) × (1 ≤ a.capacity) × (a.capacity ≤ 4096)
   pub known_taken : a.known_taken ≤ length (sent a.producer)
   pub outstanding : length (sent a.producer) ≤ a.known_taken + a.capacity
   pub free : a.known_taken + a.capacity ≤ length (sent a.producer) + known_free a.producer

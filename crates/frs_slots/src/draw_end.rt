@@ -1,7 +1,7 @@
 // What has the drawing end of a ring, and what it does together with the taking end.
 ghost use Rattle.std.specs.Prelude.{◌≡◌, ◌≤◌, min, length, OnOk, OnErr};
 ghost use mathlib.Core.List.{IsPrefix};
-ghost use Rattle.frs_slots.specs.Views.{AreOfOneRing, IsTakenUp};
+ghost use Rattle.frs_slots.specs.Views.{AreOfOneRing, HasRoom, IsTakenUp};
 
 use crate::drawer::Drawer;
 use crate::taker::Taker;
@@ -37,6 +37,7 @@ pub trait DrawEnd {
         requires taken_up { IsTakenUp (drawer self.old) taker.old }
         ensures one_ring { AreOfOneRing (drawer self.new) taker.new }
         ensures drawer { OnOk result (drawer self.new ≡ record (drawer self.old) { ring = (drawer self.new).ring; known_taken = length (drawer self.old).drawn }) }
+        ensures room { OnOk result (HasRoom (drawer self.new)) }
         ensures taker { OnOk result ((taker.new ≡ record taker.old { ring = taker.new.ring; known = taker.new.known }) × (taker.old.known ≤ taker.new.known)) }
         ensures refused { OnErr result ((drawer self.new ≡ drawer self.old) × (taker.new ≡ taker.old)) }
         ensures others { is_else_as self.old self.new };

@@ -61,7 +61,7 @@ impl Drawer {
     // The end of a ring on which nothing was pushed.
     pub(crate) fn new(producer: Producer<Framed>, capacity: u32, first: u64) -> Drawer
         requires empty { (sent producer ≡ []) × (known_free producer ≡ capacity) × (producer_capacity producer ≡ capacity) }
-        requires in_range { (capacity ≤ 4096) × (1 ≤ first) × (first ≤ 2 ^ 62) }
+        requires in_range { (1 ≤ capacity) × (capacity ≤ 4096) × (1 ≤ first) × (first ≤ 2 ^ 62) }
         ensures { result ≡ record { ring = pushes_on producer; first = first; capacity = capacity; drawn = []; known_taken = 0 } }
     {
         Drawer {
@@ -78,6 +78,7 @@ impl Drawer {
         ensures next { result ≡ next_drawn self.now }
         ensures in_range { (1 ≤ result) × (result ≤ 2 ^ 62) }
         ensures counts { (self.now.known_taken ≤ length self.now.drawn) × (outstanding self.now ≤ self.now.capacity) }
+        ensures capacity { (1 ≤ self.now.capacity) × (self.now.capacity ≤ 4096) }
     {
         self.next
     }
