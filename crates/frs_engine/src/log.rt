@@ -14,7 +14,7 @@ pub(crate) fn chunk_body(alloc: Global, lsn: u64, bytes: &[u8]) -> Result<Vec<u8
     requires { length bytes.now < 2 ^ 32 }
     ensures { IfOk result (λ body. body.items ≡ chunk_of lsn bytes.now ++ 0 ∷ []) }
 {
-    let mut body = Vec::with_capacity(alloc, 17)?;
+    let mut body = Vec::with_capacity(alloc, 18 + bytes.len())?;
     body.extend_from_slice(&(bytes.len() as u32).to_be_bytes())?;
     body.extend_from_slice(&1u32.to_be_bytes())?;
     body.extend_from_slice(&lsn.to_be_bytes())?;

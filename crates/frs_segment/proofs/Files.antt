@@ -1,13 +1,13 @@
 -- How far a file was read: the header, and chunk after chunk.
-use Rattle.std.proofs.Common.{◌≡◌, ◌⊎◌, inl, inr, ℕ, zero, suc, ◌+◌, ◌-◌, ◌*◌, ◌^◌, ◌<◌, ◌≤◌, Bool, true, false, ◌&&◌, not, cond, List, [], ◌∷◌, ◌++◌, length, get_or, take, drop, Result, Ok, Err, refl, sym, ap, subst, ◌∙◌, append_assoc, take-append-drop, arith, IsTrue}
+use Rattle.std.proofs.Common.{◌&&◌, ◌≡◌, inl, inr, ℕ, ◌+◌, ◌^◌, ◌<◌, ◌≤◌, true, false, not, List, [], ◌∷◌, ◌++◌, length, get_or, take, drop, Ok, Err, refl, sym, ap, subst, ◌∙◌, append_assoc, arith, IsTrue}
 use Rattle.std.specs.Prelude.{slice_index, slice_range, codes}
 use Rattle.std.specs.List.{flat_map}
 use Rattle.std.specs.Str.{bytes_eq}
 use Rattle.std.proofs.Math.Dec.{ltb, leb, eqb}
-use Rattle.std.specs.Int.{w32, w64, from_be_bytes, to_be_bytes}
-use Rattle.std.proofs.lemmas.Bool.{ltb-true, ltb-false, le-ltb, lt-ltb, leb-true, leb-false, le-leb, lt-leb, eqb-true, eqb-false, eq-eqb, ne_eqb, and_parts, and_from, not-false, not_from_true, not_from_false}
+use Rattle.std.specs.Int.{w64, to_be_bytes}
+use Rattle.std.proofs.lemmas.Bool.{lt-ltb, leb-true, leb-false, le-leb, lt-leb, eqb-true, eqb-false, eq-eqb, ne_eqb, and_parts, and_from, not-false, not_from_true, not_from_false}
 use Rattle.std.proofs.lemmas.Slice.Eq.{bytes_eq-Decides}
-use Rattle.std.proofs.lemmas.List.{take_at, drop_at, drop-drop, drop_more, drop_all, append-nil, length-append, length-drop}
+use Rattle.std.proofs.lemmas.List.{drop_at, drop-drop, drop_more, append-nil, length-append, length-drop}
 use Rattle.std.proofs.lemmas.Grind.{flat_map-append}
 use Rattle.std.proofs.lemmas.Nat.{from_be_bytes-to_be_bytes_8}
 use Rattle.frs_types.specs.declared.record.Record.{Record}
@@ -16,9 +16,9 @@ use Rattle.frs_segment.specs.declared.layout.Segment.{Segment as Described}
 use Rattle.frs_segment.specs.declared.fault.ScanFault.{ScanFault}
 use Rattle.frs_segment.specs.declared.fault.ScanFault.TheVariants.{HalfMade, BadHeader, BadChunk, NumberLimit, Disk, Memory}
 use Rattle.frs_segment.specs.Front.{header}
-use Rattle.frs_segment.specs.Segments.{File, Segment, IsSegment, body, chunk_bytes, chunks_bytes, segment_spelling, records_of, end_of, is_chunk, are_chunks, is_open}
-use Rattle.frs_segment.specs.Scanning.{number_at, header_of, place_of, places_from, described, IsChunk, RefusesChunk, RefusesBody, IsRefused, TellsChunk, TellsFile}
-use Rattle.frs_segment.proofs.Chunks.{IsBytes, cut, passed, ok, ok_is, number_back64, chunk_passes}
+use Rattle.frs_segment.specs.Segments.{File, Segment, body, chunk_bytes, chunks_bytes, segment_spelling, end_of, is_chunk, are_chunks, is_open}
+use Rattle.frs_segment.specs.Scanning.{number_at, header_of, place_of, places_from, RefusesChunk, IsRefused, TellsChunk, TellsFile}
+use Rattle.frs_segment.proofs.Chunks.{IsBytes, cut, passed, ok, ok_is, number_back64}
 
 -- ---- the header
 
@@ -216,7 +216,7 @@ reach_more file first places offset next place r is told =
 -- the file ends where a gate is closed
 pub reach_end : (file : File) (first : ℕ) (places : List ChunkPlace) (offset next : ℕ) (found : Described) → Reached file first places offset next → (get_or file.1 offset 0 ≡ 1 → ⊥)
     → found ≡ record { number = file.0; first = first; «end» = next; length = offset + 1; chunks = places } → TellsFile file (Ok found)
-reach_end file first places offset next found r closed is below =
+reach_end file first places offset next found r closed is number =
     let s = meant file first r.chunks in
     let h = header_told file first r.header_is in
     let gate = get_or file.1 offset 0 in (
@@ -228,8 +228,8 @@ reach_end file first places offset next found r closed is below =
         closed = not_from_false (eqb gate 1) (ne_eqb gate 1 closed);
         bytes = r.spelled ∙ ap (λ (x : List ℕ). segment_spelling s ++ x) (at_gate file.1 offset gate r.inside refl);
         chunks = r.all;
-        starts = and_from (leb 1 first) (ltb first (2 ^ 62)) (le-leb _ _ h.some) (lt-ltb _ _ h.below);
-        within = and_from (leb (end_of s) (2 ^ 62)) (ltb file.0 (2 ^ 62)) (le-leb _ _ (omega (arith, r.within, r.next_is))) (lt-ltb _ _ below);
+        starts = and_from (leb 1 file.0 && leb 1 first) (ltb first (2 ^ 62)) (and_from (leb 1 file.0) (leb 1 first) (le-leb _ _ number.0) (le-leb _ _ h.some)) (lt-ltb _ _ h.below);
+        within = and_from (leb (end_of s) (2 ^ 62)) (ltb file.0 (2 ^ 62)) (le-leb _ _ (omega (arith, r.within, r.next_is))) (lt-ltb _ _ number.1);
       },
       is ∙ ap (λ (n : ℕ). record { number = file.0; first = first; «end» = n; length = offset + 1; chunks = places }) r.next_is
           ∙ ap (λ (n : ℕ). record { number = file.0; first = first; «end» = end_of s; length = n + 1; chunks = places }) r.offset_is

@@ -1,19 +1,19 @@
 -- What a read of a file, or of a part of it, tells.
-use Rattle.std.proofs.Common.{◌≡◌, ◌⊎◌, inl, inr, ℕ, zero, suc, ◌+◌, ◌^◌, ◌<◌, ◌≤◌, Bool, true, false, ◌&&◌, not, cond, List, [], ◌∷◌, ◌++◌, length, get_or, take, drop, Result, Ok, Err, refl, sym, ap, subst, ◌∙◌, append_assoc, take-append-drop, arith, IsTrue, IfOk, Vec, Global}
-use Rattle.std.specs.Prelude.{slice_index, slice_range, codes, IfErr}
-use Rattle.std.specs.Str.{bytes_eq}
+use Rattle.std.proofs.Common.{◌≡◌, inl, inr, ℕ, ◌+◌, ◌^◌, ◌<◌, ◌≤◌, Bool, true, false, ◌&&◌, not, cond, List, [], ◌∷◌, ◌++◌, length, take, drop, Result, Ok, Err, sym, ap, subst, ◌∙◌, append_assoc, take-append-drop, arith, IfOk, Vec, Global}
+use Rattle.std.specs.Prelude.{slice_index, IfErr}
 use Rattle.std.specs.Int.{w32, w64}
 use Rattle.std.proofs.Math.Dec.{ltb, leb, eqb}
-use Rattle.std.proofs.lemmas.Bool.{ltb-true, and_parts}
-use Rattle.std.proofs.lemmas.List.{take_at, drop_at, drop-drop, drop_more, length-append}
+use Rattle.std.proofs.lemmas.Bool.{ltb-true, leb-true, and_parts}
+use Rattle.std.proofs.lemmas.List.{take_at, drop-drop, drop_more, length-append}
 use Rattle.frs_types.specs.declared.record.Record.{Record}
+use Rattle.frs_disk.specs.Disk.{IsNumber}
 use Rattle.frs_segment.specs.declared.layout.ChunkPlace.{ChunkPlace}
 use Rattle.frs_segment.specs.declared.layout.Segment.{Segment as Described}
 use Rattle.frs_segment.specs.declared.fault.ScanFault.{ScanFault}
 use Rattle.frs_segment.specs.declared.fault.ScanFault.TheVariants.{HalfMade, BadHeader, BadChunk, NumberLimit, Disk, Memory}
 use Rattle.frs_segment.specs.Segments.{File, Segment, IsSegment, body, chunk_bytes, segment_spelling, end_of}
 use Rattle.frs_segment.specs.Faults.{HasDiskCause, Gives}
-use Rattle.frs_segment.specs.Scanning.{number_at, header_of, head_of, place_of, described, FillBody, IsChunk, RefusesChunk, RefusesBody, IsRefused, RefusesRecords, RefusesPlace, TellsFile}
+use Rattle.frs_segment.specs.Scanning.{number_at, header_of, head_of, place_of, described, FillBody, IsChunk, RefusesChunk, IsRefused, RefusesRecords, RefusesPlace, TellsFile}
 use Rattle.frs_segment.proofs.Chunks.{IsBytes, IsBytes-drop, chunk_told, chunk_head, chunk_passes}
 use Rattle.frs_segment.proofs.Unique.{one_segment, not_both, one_fault, one_chunk}
 
@@ -109,7 +109,9 @@ chunk_read place text rs (Err Memory) found why is = tt
 pub segment_read : (file : File) (r : Result Described ScanFault) (s : Segment) → TellsFile file r → IsSegment file s → Gives (λ found. found) r (Ok (described s))
 segment_read file (Ok found) s tells is =
     let below = ltb-true s.number (2 ^ 62) (and_parts (leb (end_of s) (2 ^ 62)) (ltb s.number (2 ^ 62)) is.within).1 in
-    let (t, it, e) = tells (omega (arith, below, is.number)) in
+    let starts = and_parts (leb 1 s.number && leb 1 s.first) (ltb s.first (2 ^ 62)) is.starts in
+    let some = leb-true 1 s.number (and_parts (leb 1 s.number) (leb 1 s.first) starts.0).0 in
+    let (t, it, e) = tells (omega (arith, some, is.number), omega (arith, below, is.number)) in
     ap (λ (x : Segment). Ok (described x)) (one_segment file s t is it) ∙ ap (λ (x : Described). Ok x) (sym e)
 segment_read file (Err HalfMade) s tells is = absurd (not_both file s HalfMade is tells)
 segment_read file (Err (BadHeader at)) s tells is = absurd (not_both file s (BadHeader at) is tells)
@@ -118,7 +120,7 @@ segment_read file (Err (NumberLimit lsn)) s tells is = absurd (not_both file s (
 segment_read file (Err Disk) s tells is = tt
 segment_read file (Err Memory) s tells is = tt
 
-pub refusal_read : (file : File) (r : Result Described ScanFault) (fault : ScanFault) → file.0 < 2 ^ 62 → TellsFile file r → IsRefused file fault → Gives (λ found. found) r (Err fault)
+pub refusal_read : (file : File) (r : Result Described ScanFault) (fault : ScanFault) → IsNumber file.0 → TellsFile file r → IsRefused file fault → Gives (λ found. found) r (Err fault)
 refusal_read file (Ok found) fault below tells refused = let (t, it, e) = tells below in absurd (not_both file t fault it refused)
 refusal_read file (Err HalfMade) fault below tells refused = ap (λ (f : ScanFault). Err f) (one_fault file fault HalfMade refused tells)
 refusal_read file (Err (BadHeader at)) fault below tells refused = ap (λ (f : ScanFault). Err f) (one_fault file fault (BadHeader at) refused tells)

@@ -1,21 +1,19 @@
 -- A file is one thing: one segment, or refused with one fault.
-use Rattle.std.proofs.Common.{◌≡◌, ◌⊎◌, inl, inr, ℕ, zero, suc, ◌+◌, ◌^◌, ◌<◌, ◌≤◌, Bool, true, false, ◌&&◌, not, List, [], ◌∷◌, ◌++◌, length, take, drop, Result, Ok, Err, refl, sym, ap, subst, ◌∙◌, append_assoc, arith, IsTrue}
+use Rattle.std.proofs.Common.{◌&&◌, ◌≡◌, ◌⊎◌, inl, inr, ℕ, ◌+◌, ◌^◌, ◌<◌, ◌≤◌, not, List, [], ◌∷◌, ◌++◌, length, take, drop, Result, Ok, Err, refl, sym, ap, subst, ◌∙◌, append_assoc, arith, IsTrue}
 use Rattle.std.specs.Prelude.{slice_index}
 use Rattle.std.proofs.Math.Dec.{ltb, leb, eqb}
-use Rattle.std.specs.Int.{w32, w64, to_be_bytes}
+use Rattle.std.specs.Int.{w32}
 use Rattle.std.proofs.lemmas.Bool.{ltb-true, leb-true, eq-eqb, and_parts, both_ways, not-true}
 use Rattle.std.proofs.lemmas.List.{take_at, drop_at, append-nil, length-append}
 use Rattle.std.proofs.lemmas.Grind.{flat_map-append}
 use Rattle.std.proofs.lemmas.Nat.{from_be_bytes-to_be_bytes_4}
 use Rattle.frs_types.specs.declared.record.Record.{Record}
-use Rattle.frs_segment.specs.declared.layout.ChunkPlace.{ChunkPlace}
 use Rattle.frs_segment.specs.declared.fault.ScanFault.{ScanFault}
-use Rattle.frs_segment.specs.declared.fault.ScanFault.TheVariants.{BadChunk}
 use Rattle.frs_segment.specs.Front.{header}
 use Rattle.frs_segment.specs.Segments.{File, Segment, IsSegment, body, chunk_bytes, chunks_bytes, segment_spelling, end_of, is_chunk, are_chunks}
-use Rattle.frs_segment.specs.Scanning.{number_at, header_of, head_of, FillBody, RefusesChunk, RefusesBody, IsRefused}
+use Rattle.frs_segment.specs.Scanning.{number_at, header_of, head_of, RefusesChunk, RefusesBody, IsRefused}
 use Rattle.frs_segment.proofs.Bodies.{all_fit, one_body}
-use Rattle.frs_segment.proofs.Chunks.{ok, ok_is, chunk_passes, not_refused}
+use Rattle.frs_segment.proofs.Chunks.{ok_is, chunk_passes, not_refused}
 use Rattle.frs_segment.proofs.Files.{flat, headed_from, header_again}
 
 -- ---- chunks
@@ -110,12 +108,13 @@ segment_tail file s is = sym (ap (drop 22) is.bytes)
 
 pub segment_header : (file : File) (s : Segment) → IsSegment file s → header_of file ≡ Ok s.first
 segment_header file s is =
-    let starts = and_parts (leb 1 s.first) (ltb s.first (2 ^ 62)) is.starts in
+    let starts = and_parts (leb 1 s.number && leb 1 s.first) (ltb s.first (2 ^ 62)) is.starts in
+    let some = (and_parts (leb 1 s.number) (leb 1 s.first) starts.0).1 in
     let within = and_parts (leb (end_of s) (2 ^ 62)) (ltb s.number (2 ^ 62)) is.within in
     let below : file.0 < 2 ^ 62 = omega (arith, ltb-true s.number (2 ^ 62) within.1, is.number) in
     let tail = chunks_bytes s.first s.chunks ++ is.gate ∷ is.rest in
     let spelled : file.1 ≡ (1 ∷ header file.0 s.first) ++ tail = is.bytes ∙ append_assoc (1 ∷ header s.number s.first) (chunks_bytes s.first s.chunks) (is.gate ∷ is.rest) ∙ ap (λ (n : ℕ). (1 ∷ header n s.first) ++ tail) is.number in
-    header_again file s.first (headed_from file s.first tail spelled (omega (arith, length-append (chunks_bytes s.first s.chunks) (is.gate ∷ is.rest))) below (leb-true _ _ starts.0) (ltb-true _ _ starts.1))
+    header_again file s.first (headed_from file s.first tail spelled (omega (arith, length-append (chunks_bytes s.first s.chunks) (is.gate ∷ is.rest))) below (leb-true _ _ some) (ltb-true _ _ starts.1))
 
 segment_below : (file : File) (s : Segment) → IsSegment file s → s.first + length (flat s.chunks) ≤ 2 ^ 62
 segment_below file s is = leb-true (end_of s) (2 ^ 62) (and_parts (leb (end_of s) (2 ^ 62)) (ltb s.number (2 ^ 62)) is.within).0

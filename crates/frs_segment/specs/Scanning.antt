@@ -1,10 +1,11 @@
 -- What reading a segment file tells: where its chunks stand, or the first thing from the front that is wrong.
-use Rattle.std.specs.Prelude.{◌≡◌, ◌⊎◌, ℕ, ◌+◌, ◌^◌, ◌<◌, ◌≤◌, Bool, not, ◌&&◌, ◌==◌, nat_lt, nat_le, List, [], ◌∷◌, ◌++◌, length, take, drop, codes, slice_index, slice_range, IsTrue, Option, Some, None, Result, Ok, Err, if◌then◌else◌}
+use Rattle.std.specs.Prelude.{◌≡◌, ◌⊎◌, ℕ, ◌+◌, ◌^◌, ◌<◌, ◌≤◌, not, ◌&&◌, ◌==◌, nat_lt, nat_le, List, [], ◌∷◌, ◌++◌, length, take, drop, codes, slice_index, slice_range, IsTrue, Option, Some, None, Result, Ok, Err, if◌then◌else◌}
 use Rattle.std.specs.Str.{bytes_eq}
 use Rattle.std.specs.Int.{Width, w32, w64, byte_len, from_be_bytes}
 use Rattle.frs_types.specs.declared.record.Record.{Record}
 use Rattle.frs_types.specs.Records.{allowed, allowed_from}
 use Rattle.frs_frame.specs.Spelling.{spelling}
+use Rattle.frs_disk.specs.Disk.{IsNumber}
 use Rattle.frs_segment.specs.declared.layout.ChunkPlace.{ChunkPlace}
 use Rattle.frs_segment.specs.declared.layout.Segment.{Segment as Described}
 use Rattle.frs_segment.specs.declared.fault.ScanFault.{ScanFault}
@@ -103,7 +104,7 @@ IsRefused file fault = (header_of file ≡ Err fault) ⊎ RefusesBody file fault
 
 -- the segment that the file is, or what is wrong first; want of memory is free
 abbrev pub TellsFile : File → Result Described ScanFault → Type 0
-TellsFile file (Ok found) = file.0 < 2 ^ 62 → (s : Segment) × IsSegment file s × (found ≡ described s)
+TellsFile file (Ok found) = IsNumber file.0 → (s : Segment) × IsSegment file s × (found ≡ described s)
 TellsFile file (Err Memory) = Unit {0}
 TellsFile file (Err fault) = IsRefused file fault
 

@@ -59,7 +59,7 @@ pub record IsSegment (file : File) (s : Segment) : Type 0 where
   pub closed : IsTrue (not (gate == 1))
   pub bytes : file.1 ≡ segment_spelling s ++ gate ∷ rest
   pub chunks : IsTrue (are_chunks s.first s.chunks)
-  pub starts : IsTrue (nat_le 1 s.first && nat_lt s.first (2 ^ 62))
+  pub starts : IsTrue (nat_le 1 s.number && nat_le 1 s.first && nat_lt s.first (2 ^ 62))
   pub within : IsTrue (nat_le (end_of s) (2 ^ 62) && nat_lt s.number (2 ^ 62))
 
 -- A file is open, and not half-made, where it has 23 bytes and an open gate.

@@ -16,6 +16,9 @@ pub(crate) const HEADER: usize = 23;
 // The number of bytes of a chunk's head behind its gate.
 const HEAD: usize = 16;
 
+// The number of bytes from a chunk's gate to its body.
+pub(crate) const FRONT: usize = 1 + HEAD;
+
 // The most records of a chunk, and the most bytes of its body.
 const MOST_RECORDS: u32 = 256;
 

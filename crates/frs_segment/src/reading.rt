@@ -10,7 +10,7 @@ ghost use Rattle.frs_segment.specs.Faults.{HasDiskCause, Gives};
 ghost use Rattle.frs_segment.specs.Scanning.{head_of, described, IsChunk, IsRefused, IsCauseIn, IsFaultAt, RefusesPlace};
 
 use crate::fault::ScanFault;
-use crate::heads::{MOST_BODY, head_at};
+use crate::heads::{FRONT, MOST_BODY, head_at};
 use crate::layout::{ChunkPlace, Segment};
 use crate::records::records_of;
 use crate::scanning::segment_in;
@@ -106,7 +106,7 @@ pub fn read_chunk<D: Disk>(
             offset: place.offset,
         });
     }
-    let room = 18 + u64::from(place.body);
+    let room = FRONT as u64 + 1 + u64::from(place.body);
     let text = disk.read(alloc, number, place.offset, room)?;
     chunk_in(alloc, text.as_slice(), place)
 }
@@ -121,7 +121,7 @@ fn chunk_in(alloc: Global, text: &[u8], place: &ChunkPlace) -> Result<Vec<Record
             offset: place.offset,
         });
     }
-    let body = &text[17..17 + place.body as usize];
+    let body = &text[FRONT..FRONT + place.body as usize];
     records_of(alloc, body, place)
 }
 

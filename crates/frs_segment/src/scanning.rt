@@ -3,13 +3,10 @@ ghost use Rattle.std.specs.Prelude.{◌≡◌, ◌+◌, ◌<◌, ◌≤◌, ◌^
 ghost use Rattle.frs_segment.specs.Scanning.{TellsChunk, TellsFile};
 
 use crate::fault::ScanFault;
-use crate::heads::{HEADER, head_at, header_at};
+use crate::heads::{FRONT, HEADER, head_at, header_at};
 use crate::layout::{ChunkPlace, Places, Segment};
 use crate::records::records_of;
 use std::alloc::Global;
-
-// The number of bytes from a chunk's gate to its body.
-const FRONT: usize = 17;
 
 // The segment that the bytes of this file are, or what is wrong with them first.
 pub(crate) fn segment_in(alloc: Global, number: u64, bytes: &[u8]) -> Result<Segment, ScanFault>

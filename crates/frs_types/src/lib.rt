@@ -4,6 +4,7 @@
 
 mod lock;
 mod memory;
+mod order;
 mod record;
 mod turn;
 mod word;

@@ -1,7 +1,5 @@
-use Rattle.std.proofs.Common.{◌≡◌, ◌-◌, ◌+◌, ℕ, List, drop, take, refl, subst, sym, ap, arith, length}
-use Rattle.std.specs.Prelude.{IfOk}
+use Rattle.std.proofs.Common.{◌≡◌, ◌-◌, ◌+◌, ℕ, drop, take, refl, subst, arith}
 use Rattle.std.proofs.lemmas.Bool.{iff_false}
-use Rattle.frs_types.specs.declared.record.Record.{Record}
 use Rattle.frs_segment.specs.Scanning.{FillBody, IsChunk}
 use Rattle.frs_segment.proofs.Chunks.{IsBytes}
 use Rattle.frs_segment.proofs.Readings.{Records, chunk_begins, begun_chunk, if_ok}

@@ -1,6 +1,5 @@
-use Rattle.std.proofs.Common.{◌≡◌, ◌∙◌, ◌-◌, ◌+◌, ℕ, List, drop, take, refl, subst, sym, ap, arith, length, IsTrue}
+use Rattle.std.proofs.Common.{◌≡◌, ◌∙◌, ℕ, List, subst}
 use Rattle.frs_disk.specs.Disk.{bytes_at}
-use Rattle.frs_segment.specs.Segments.{File}
 use Rattle.frs_segment.specs.Scanning.{TellsFile}
 use Rattle.frs_segment.proofs.Readings.{segment_read, refusal_read, file_cause}
 use Rattle.frs_segment.proofs.reading.scan.Goals as goal
@@ -16,7 +15,7 @@ returns-clause-refused g c told fault refused =
     let e : c.as_slice.result.now ≡ bytes_at (g.D.Disk.reads c.args.disk.now) c.args.number = c.as_slice.ensures.value ∙ c.in_ok-bytes.ensures.bytes told in
     let tells = subst (λ (x : List ℕ). TellsFile (c.args.number, x) c.segment_in.result) e c.segment_in.ensures in
     let number = g.met.D.Disk.numbered c.args.disk.now c.args.number told (c.requires.there told) in
-    refusal_read (c.args.number, bytes_at (g.D.Disk.reads c.args.disk.now) c.args.number) c.segment_in.result fault number.1 tells refused
+    refusal_read (c.args.number, bytes_at (g.D.Disk.reads c.args.disk.now) c.args.number) c.segment_in.result fault number tells refused
 
 pub returns-clause-cause : goal.returns-clause-cause
 returns-clause-cause g c = file_cause (c.args.number, c.as_slice.result.now) (g.D.Disk.faults c.args.disk.now) (g.D.Disk.faults c.read_whole.new.disk) c.segment_in.result c.in_ok-bytes.ensures.cause c.segment_in.ensures

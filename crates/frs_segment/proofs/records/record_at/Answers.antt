@@ -1,4 +1,4 @@
-use Rattle.std.proofs.Common.{refl, subst, arith, rules, length, sym, ◌∙◌}
+use Rattle.std.proofs.Common.{arith, sym, ◌∙◌}
 use Rattle.frs_segment.proofs.Bodies.{no_other, none_read}
 use Rattle.frs_segment.proofs.records.record_at.Goals as goal
 

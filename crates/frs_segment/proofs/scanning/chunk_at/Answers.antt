@@ -1,4 +1,4 @@
-use Rattle.std.proofs.Common.{◌≡◌, ◌∙◌, ◌+◌, ◌-◌, ℕ, List, Err, drop, take, refl, subst, sym, ap, arith, length}
+use Rattle.std.proofs.Common.{◌≡◌, ◌∙◌, ◌+◌, ◌-◌, ℕ, List, Err, drop, take, subst, sym, ap, arith}
 use Rattle.std.proofs.lemmas.Result.{err_from_is_err_and}
 use Rattle.frs_segment.specs.Scanning.{TellsChunk, FillBody, RefusesRecords, head_of}
 use Rattle.frs_segment.proofs.Chunks.{IsBytes, head_fails, records_fail, chunk_told, IsBytes-drop}

@@ -1,8 +1,7 @@
-use Rattle.std.proofs.Common.{◌≡◌, ◌∙◌, ◌+◌, ◌++◌, ◌∷◌, [], ℕ, List, Err, Ok, drop, refl, subst, sym, ap, arith, length}
+use Rattle.std.proofs.Common.{◌+◌, List, subst, sym, ap, arith}
 use Rattle.std.proofs.lemmas.Result.{err_from_is_err_and}
 use Rattle.frs_segment.specs.declared.layout.ChunkPlace.{ChunkPlace}
 use Rattle.frs_segment.specs.Segments.{File}
-use Rattle.frs_segment.specs.Scanning.{header_of}
 use Rattle.frs_segment.proofs.Files.{Reached, reach_start, reach_more, reach_end, reach_fault, header_fault}
 use Rattle.frs_segment.proofs.scanning.segment_in.Goals as goal
 

@@ -1,0 +1,4 @@
+mod BeginSteps
+mod ChainStep
+mod LogSteps
+mod Notes

@@ -1,0 +1,3 @@
+pub mod Begins
+pub mod Chain
+pub mod Filters
