@@ -24,6 +24,15 @@ fn outcome(rt: &impl Abort, alloc: Global, bytes: &[u8], lines: u32) -> Result<S
     Ok(text)
 }
 
+// Each of the bytes has this outcome.
+fn all_have(rt: &impl Abort, alloc: Global, table: &[(&[u8], &str)]) -> Result<(), Fail> {
+    for (bytes, want) in table {
+        let text = outcome(rt, alloc, bytes, 1_000_000)?;
+        assert_eq!(rt; text.as_str(), *want, "{bytes:?}");
+    }
+    Ok(())
+}
+
 #[test]
 fn scripts(rt: HostRuntime) -> Result<(), Fail> {
     let table = [
@@ -52,7 +61,14 @@ fn scripts(rt: HostRuntime) -> Result<(), Fail> {
         ),
         (b"get m #7", "1 get m #7\n"),
         (b"put rates vat 19%25", "1 put rates vat 19%25\n"),
-        (b"get m k\r", "BadLine { line: 1 }"),
+    ];
+    all_have(&rt, rt.alloc(), &table)
+}
+
+#[test]
+fn refused_lines(rt: HostRuntime) -> Result<(), Fail> {
+    let table = [
+        (b"get m k\r".as_slice(), "BadLine { line: 1 }"),
         (b"get m k\r\r\n", "BadLine { line: 1 }"),
         (b"get m\rk\n", "BadLine { line: 1 }"),
         (b"get m \x7F", "BadLine { line: 1 }"),
@@ -85,11 +101,7 @@ fn scripts(rt: HostRuntime) -> Result<(), Fail> {
         (b"begin\nbegin\n", "BadLine { line: 2 }"),
         (b"begin\ncommit\ncommit\n", "BadLine { line: 3 }"),
     ];
-    for (bytes, want) in table {
-        let text = outcome(&rt, rt.alloc(), bytes, 1_000_000)?;
-        assert_eq!(rt; text.as_str(), want, "{bytes:?}");
-    }
-    Ok(())
+    all_have(&rt, rt.alloc(), &table)
 }
 
 // The lines before, and then a line with so many bytes between its ends.
