@@ -1,13 +1,13 @@
 -- A disk without files shows no record, and a run that makes no change leaves nothing else.
-use Rattle.std.proofs.Common.{◌≡◌, ◌∙◌, ap, sym, refl, subst, arith, rules, ℕ, zero, suc, ◌≤◌, List, [], ◌∷◌, map, length}
-use Rattle.std.specs.Prelude.{◌==◌, Bool, true, Option, Some, None, IsSome}
+use Rattle.std.proofs.Common.{◌≡◌, ◌∙◌, ap, sym, refl, subst, arith, rules, ℕ, List, [], ◌∷◌, map, length}
+use Rattle.std.specs.Prelude.{◌==◌, Bool, true, Option, None, IsSome}
 use Rattle.std.specs.Ordering.{nat_cmp}
-use Rattle.std.specs.FinMap.{FinMap, entries, empty, keys, get, get-empty, same_entries_map, entries-from_sorted}
+use Rattle.std.specs.FinMap.{entries, empty, keys, get, get-empty, same_entries_map, entries-from_sorted}
 use Rattle.frs_disk.specs.Disk.{Image}
 use Rattle.frs_disk.specs.Choices.{image_of-none}
 use Rattle.frs_history.specs.declared.event.Ack.{Ack}
 use Rattle.frs_history.specs.Machine.{Changes}
-use Rattle.frs_engine.specs.Promise.{ShowsPuts, Shows, Survives}
+use Rattle.frs_engine.specs.Promise.{ShowsPuts, Survives}
 
 pub entries_empty : entries {X = List ℕ} {R = nat_cmp} empty ≡ []
 entries_empty = ap (λ (i : Image). entries i) (sym image_of-none) ∙ entries-from_sorted nat_cmp [] tt

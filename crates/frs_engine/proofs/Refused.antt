@@ -3,7 +3,6 @@ use Rattle.std.proofs.Common.{◌≡◌, ◌∙◌, sym, refl, subst, ⊎_elim, 
 use Rattle.frs_history.specs.declared.command.Line.{Line}
 use Rattle.frs_history.specs.declared.event.Ack.{Ack}
 use Rattle.frs_history.specs.declared.event.Event.{Event}
-use Rattle.frs_disk.specs.Disk.{Rose}
 use Rattle.frs_engine.specs.declared.report.Ending.{Ending}
 use Rattle.frs_engine.specs.declared.report.Ending.TheVariants.{Closed, Disk, Unread, Memory, Later}
 use Rattle.frs_engine.specs.Endings.{status_of}

@@ -1,7 +1,6 @@
 -- What a run prints is its transcript with a last line, or that line alone, and what a sink took of it.
-use Rattle.std.proofs.Common.{◌≡◌, ◌∙◌, ap, sym, refl, ℕ, List, [], ◌∷◌, ◌++◌, append_assoc}
+use Rattle.std.proofs.Common.{◌≡◌, ◌∙◌, ap, sym, refl, List, [], ◌∷◌, ◌++◌, append_assoc}
 use Rattle.std.specs.Prelude.{flat_map, Result, Ok, Err, OnOk}
-use Rattle.std.proofs.lemmas.List.{append-nil}
 use Rattle.frs_history.specs.declared.command.Line.{Line}
 use Rattle.frs_history.specs.declared.event.Ack.{Ack}
 use Rattle.frs_history.specs.declared.event.Event.{Event}

@@ -1,5 +1,5 @@
 -- The scripts that can be run so far: lines of puts and gets in their plainest form.
-use Rattle.std.specs.Prelude.{◌≡◌, ℕ, ◌≤◌, Bool, true, false, ◌&&◌, nat_lt, nat_le, List, [], ◌∷◌, ◌++◌, map, flat_map, length, IsTrue, codes}
+use Rattle.std.specs.Prelude.{◌≡◌, ℕ, ◌≤◌, Bool, false, ◌&&◌, nat_lt, List, [], ◌∷◌, ◌++◌, map, flat_map, length, IsTrue, codes}
 use Rattle.std.specs.List.{list_all, range_with_len}
 use Rattle.frs_types.specs.Records.{is_id, is_key, is_value}
 use Rattle.frs_history.specs.declared.command.Command.{Command}

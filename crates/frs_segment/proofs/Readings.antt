@@ -1,5 +1,5 @@
 -- What a read of a file, or of a part of it, tells.
-use Rattle.std.proofs.Common.{◌≡◌, inl, inr, ℕ, ◌+◌, ◌^◌, ◌<◌, ◌≤◌, Bool, true, false, ◌&&◌, not, cond, List, [], ◌∷◌, ◌++◌, length, take, drop, Result, Ok, Err, sym, ap, subst, ◌∙◌, append_assoc, take-append-drop, arith, IfOk, Vec, Global}
+use Rattle.std.proofs.Common.{◌≡◌, inl, inr, ℕ, ◌+◌, ◌^◌, ◌≤◌, Bool, true, false, ◌&&◌, not, cond, List, [], ◌∷◌, ◌++◌, length, take, drop, Result, Ok, Err, sym, ap, subst, ◌∙◌, append_assoc, take-append-drop, arith, IfOk, Vec, Global}
 use Rattle.std.specs.Prelude.{slice_index, IfErr}
 use Rattle.std.specs.Int.{w32, w64}
 use Rattle.std.proofs.Math.Dec.{ltb, leb, eqb}

@@ -1,4 +1,4 @@
-use Rattle.std.proofs.Common.{◌∙◌, sym, drop, arith}
+use Rattle.std.proofs.Common.{◌∙◌, sym, arith}
 use Rattle.std.proofs.lemmas.List.Sums.{prefix_len-drop_yes, prefix_len-drop_no, prefix_len-drop_all}
 use Rattle.frs_text.specs.Text.{is_plain}
 use Rattle.frs_engine.proofs.plain.plain_len.Goals as goal

@@ -1,8 +1,7 @@
-use Rattle.std.proofs.Common.{◌≡◌, ◌∙◌, ◌++◌, ap, sym, subst, IsTrue}
+use Rattle.std.proofs.Common.{◌∙◌, ◌++◌, ap, sym, subst, IsTrue}
 use Rattle.frs_text.specs.Text.{Text}
 use Rattle.frs_disk.specs.Outside.{AddsPartOf}
-use Rattle.frs_engine.specs.Endings.{status_of, line_of}
-use Rattle.frs_engine.specs.Runs.{text_of, PrintsAll, Prints}
+use Rattle.frs_engine.specs.Endings.{line_of}
 use Rattle.frs_engine.proofs.Texts.{said, said_same, run_text, both_print, last_prints, on_ok_then}
 use Rattle.frs_engine.proofs.report.print.Goals as goal
 

@@ -1,6 +1,5 @@
-use Rattle.std.proofs.Common.{◌≡◌, ap, subst, sym}
+use Rattle.std.proofs.Common.{subst, sym}
 use Rattle.frs_engine.specs.declared.report.Ending.{Ending}
-use Rattle.frs_engine.specs.Endings.{status_of}
 use Rattle.frs_engine.proofs.PlainLines.{plain_puts_and_gets}
 use Rattle.frs_engine.proofs.Nothing.{nothing_survives}
 use Rattle.frs_engine.proofs.Refused.{IsRefusal, refused_of_file, refused_not_closed, nothing_told}

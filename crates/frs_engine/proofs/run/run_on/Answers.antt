@@ -1,8 +1,4 @@
-use Rattle.std.proofs.Common.{◌≡◌, ◌∙◌, sym, subst, ⊎_elim, IsTrue, vec_len, arith}
-use Rattle.std.specs.Prelude.{IsSome}
-use Rattle.std.specs.FinMap.{empty, get}
-use Rattle.frs_disk.specs.Disk.{Image}
-use Rattle.frs_disk.proofs.Moments.{within_call, within_join, passes_join}
+use Rattle.std.proofs.Common.{◌∙◌, sym, subst, ⊎_elim, IsTrue, vec_len, arith}
 use Rattle.frs_engine.proofs.Nothing.{empty_by_keys, none_there, none_counted, nothing_survives}
 use Rattle.frs_engine.proofs.run.run_on.Goals as goal
 
