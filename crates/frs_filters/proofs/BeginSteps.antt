@@ -24,11 +24,11 @@ min_two n k (Some m) = omega arith
 begin : (b : Begins) (later : List Numbered) (lsn tx lowest named : ℕ) (e : Bool) → is_ended b lsn ≡ e → HasNoted b later → HasNoted (if e then b else record b { lowest = Some (or_lower lsn b.lowest) }) (numbered_at lsn tx lowest named Begin ∷ later)
 begin b later lsn tx lowest named true h seen = record {
   ended = seen.ended;
-  lowest = λ n. ap (λ v. least n (if not v then lsn ∷ open_begins later else open_begins later)) (sym (seen.ended lsn) ∙ h) ∙ seen.lowest n
+  lowest = λ n. ap (λ v. least n (if not v then lsn ∷ open_begins later else open_begins later)) (sym (seen.ended lsn) ∙ h) ∙ seen.lowest n;
 }
 begin b later lsn tx lowest named false h seen = record {
   ended = seen.ended;
-  lowest = λ n. ap (λ v. least n (if not v then lsn ∷ open_begins later else open_begins later)) (sym (seen.ended lsn) ∙ h) ∙ seen.lowest (min n lsn) ∙ min_two n lsn b.lowest
+  lowest = λ n. ap (λ v. least n (if not v then lsn ∷ open_begins later else open_begins later)) (sym (seen.ended lsn) ∙ h) ∙ seen.lowest (min n lsn) ∙ min_two n lsn b.lowest;
 }
 
 ends : (b : Begins) (later : List Numbered) (tx t : ℕ) → is_ended b t ≡ list_any (λ (l : Numbered). ends_by t l.what.tx l.what.action) later

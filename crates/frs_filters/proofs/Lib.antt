@@ -1,4 +1,5 @@
 mod BeginSteps
 mod ChainStep
+pub mod LogExamples
 mod LogSteps
 mod Notes
