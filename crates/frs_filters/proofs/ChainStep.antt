@@ -149,10 +149,10 @@ above_zero lsn tx lowest named a ok =
     let below : named < lsn = ltb-true _ _ two.1 in (two.0, omega arith)
 
 -- the commits of the records so far
-abbrev AreCommits : List ℕ → List Numbered → Type 0
+abbrev pub AreCommits : List ℕ → List Numbered → Type 0
 AreCommits commits later = (tx : ℕ) → has nat_cmp commits tx ≡ list_any (λ (l : Numbered). is_commit l.what.action && (l.what.tx == tx)) later
 
-commits_step : (commits : List ℕ) (later : List Numbered) (lsn tx lowest named : ℕ) (a : Action) → AreCommits commits later → AreCommits (with_commit commits tx a) (at_lsn lsn (rec tx lowest named a) ∷ later)
+pub commits_step : (commits : List ℕ) (later : List Numbered) (lsn tx lowest named : ℕ) (a : Action) → AreCommits commits later → AreCommits (with_commit commits tx a) (at_lsn lsn (rec tx lowest named a) ∷ later)
 commits_step commits later lsn tx lowest named Commit h = λ t. has-number commits tx t _ (h t)
 commits_step commits later lsn tx lowest named (Put id key value) h = h
 commits_step commits later lsn tx lowest named (Remove id key) h = h

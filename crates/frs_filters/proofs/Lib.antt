@@ -3,3 +3,4 @@ mod ChainStep
 pub mod LogExamples
 mod LogSteps
 mod Notes
+mod Offers

@@ -1,5 +1,5 @@
 -- What is noted of begins, and of what ends them, among the newest records of a log.
-use Rattle.std.specs.Prelude.{◌≡◌, ℕ, min, Bool, true, false, ◌||◌, List, [], Option, Some, None, if◌then◌else◌}
+use Rattle.std.specs.Prelude.{◌≡◌, ℕ, min, Bool, true, ◌||◌, List, Option, Some, None, if◌then◌else◌}
 use Rattle.std.specs.List.{list_any}
 use Rattle.std.specs.Ordering.{nat_cmp}
 use Rattle.std.specs.BTreeSet.{insert_key}
@@ -14,9 +14,6 @@ pub record Begins : Type 0 where
   pub ended : List ℕ
   pub marked : Bool
   pub lowest : Option ℕ
-
-abbrev pub none_seen : Begins
-none_seen = record { ended = []; marked = false; lowest = None }
 
 -- a record that was offered ends the transaction
 abbrev pub is_ended : Begins → ℕ → Bool

@@ -1,3 +1,4 @@
 pub mod Begins
 pub mod Chain
 pub mod Filters
+pub mod Offered

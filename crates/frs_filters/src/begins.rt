@@ -2,7 +2,7 @@
 ghost use Rattle.std.specs.Prelude.{◌≡◌, List, [], ◌∷◌, OnOk, OnErr};
 ghost use Rattle.frs_types.specs.Records.{Numbered};
 ghost use Rattle.frs_types.specs.Survivors.{least, open_begins};
-ghost use Rattle.frs_filters.specs.Begins.{none_seen, is_ended, or_lower, with_noted, HasNoted};
+ghost use Rattle.frs_filters.specs.Begins.{is_ended, or_lower, with_noted, HasNoted};
 
 use frs_types::{Action, NoMemory, Record};
 use std::alloc::Global;
