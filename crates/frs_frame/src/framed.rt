@@ -25,7 +25,7 @@ const ABANDON: [u8; HEAD] = [
     8, 0, 0, 0, 0, 0, 0, 0, 0, 0, 0, 0, 0, 0, 0, 0, 0, 0, 0, 0, 0, 0, 0, 0, 0,
 ];
 
-/// The bytes of one record, at least 25 of them. Contracts see it as the list of the bytes.
+/// The bytes of one record, 25 to 65,883 of them. Contracts see it as the list of the bytes.
 #[derive(Debug, Drop)]
 pub struct Framed {
     bytes: Vec<u8>,
@@ -38,7 +38,7 @@ impl Model for Framed {
 
     ghost view = { λ a. a.bytes.items };
 
-    ghost invariant = { λ a. 25 ≤ length a.bytes.items };
+    ghost invariant = { λ a. (25 ≤ length a.bytes.items) × (length a.bytes.items ≤ 65883) };
 }
 
 impl Framed {
@@ -46,6 +46,7 @@ impl Framed {
     pub fn bytes(&self) -> &[u8]
         ensures bytes { result.now ≡ self.now }
         ensures least { 25 ≤ length self.now }
+        ensures most { length self.now ≤ 65883 }
     {
         self.bytes.as_slice()
     }

@@ -1,5 +1,5 @@
 -- How the ends of a ring are seen, and what always holds of what they keep.
-use Rattle.std.specs.Prelude.{◌≡◌, ◌+◌, ◌≤◌, ◌^◌, length}
+use Rattle.std.specs.Prelude.{◌≡◌, ◌+◌, ◌<◌, ◌≤◌, ◌^◌, length}
 use Rattle.rtrb.specs.Ring.{sent, known_free, producer_capacity, received, known_items}
 use Rattle.frs_slots.specs.declared.drawer.Drawer.TheInside as drawer
 use Rattle.frs_slots.specs.declared.taker.Taker.TheInside as taker
@@ -26,6 +26,7 @@ pub record DrawerCounts (a : drawer.Inside) : Type 0 where
 pub record TakerCounts (a : taker.Inside) : Type 0 where
   pub next : a.next ≡ a.first + length (received a.consumer)
   pub least : 1 ≤ a.first
+  pub below : a.first < 2 ^ 62
   pub most : (a.first + a.sure ≤ 2 ^ 62) × (a.first + a.known ≤ 2 ^ 62)
   pub sure : length (received a.consumer) ≤ a.sure
   pub known : length (received a.consumer) ≤ a.known

@@ -55,7 +55,7 @@ impl Taker {
     // The end of a ring from which nothing was popped.
     pub(crate) fn new(consumer: Consumer<Framed>, first: u64) -> Taker
         requires empty { received consumer ≡ [] }
-        requires in_range { (1 ≤ first) × (first ≤ 2 ^ 62) }
+        requires in_range { (1 ≤ first) × (first < 2 ^ 62) }
         ensures { result ≡ record { ring = pops_from consumer; first = first; taken = []; sure = 0; known = 0 } }
     {
         Taker {
@@ -71,6 +71,7 @@ impl Taker {
     pub fn next(&self) -> u64
         ensures next { result ≡ next_taken self.now }
         ensures in_range { (1 ≤ result) × (result ≤ 2 ^ 62) }
+        ensures first { (1 ≤ self.now.first) × (self.now.first < 2 ^ 62) }
         ensures counts { (length self.now.taken ≤ self.now.sure) × (length self.now.taken ≤ self.now.known) }
     {
         self.next

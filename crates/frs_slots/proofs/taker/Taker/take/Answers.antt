@@ -18,6 +18,7 @@ invariant_of-self c =
     record {
       next = omega (arith, old, n);
       least = old.least;
+      below = old.below;
       most = (omega (arith, old, sure), omega (arith, old, known));
       sure = omega (arith, old, n, right_within c.self.inside.sure taken c.max-self-inside.result c.max-self-inside.ensures);
       known = omega (arith, old, n, right_within c.self.inside.known taken c.max-self-inside-in-Ok.result c.max-self-inside-in-Ok.ensures);

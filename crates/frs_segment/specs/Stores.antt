@@ -1,0 +1,43 @@
+-- The files of a whole store: what one who has looked at all of them knows, when two images say the same, and what of a
+-- log an image shows.
+use Rattle.std.specs.Prelude.{◌≡◌, ◌⊎◌, ℕ, ◌+◌, ◌-◌, Bool, false, not, ◌&&◌, nat_lt, List, [], ◌∷◌, map, filter, take, None, unwrap_or}
+use Rattle.std.specs.List.{last_or}
+use Rattle.frs_types.specs.Records.{Log, next_lsn, from_lowest}
+use Rattle.frs_segment.specs.declared.layout.Found.{Found}
+use Rattle.frs_segment.specs.Segments.{File, Image, Segment, is_open, SpellsBy, places}
+use Rattle.frs_segment.specs.Scanning.{described}
+
+-- ---- what was found
+
+abbrev pub numbers_of : List File → List ℕ
+numbers_of files = map (λ (f : File). f.0) files
+
+-- the file stands below all of the segments
+abbrev pub is_below : List Segment → File → Bool
+is_below [] file = false
+is_below (s ∷ segments) file = nat_lt file.0 s.number
+
+-- An image spells a log by these segments, and this is what was found: the segments, the half-made files among and above
+-- them, all files below them, the greatest number of a file, the next LSN, and the lowest that the newest record names.
+pub record IsFound (image : Image) (segments : List Segment) (log : Log) (found : Found) : Type 0 where
+  pub spelled : SpellsBy image segments log
+  pub segments_are : found.segments ≡ map described segments
+  pub half_are : found.half ≡ numbers_of (filter (λ (f : File). not (is_open f) && not (is_below segments f)) image)
+  pub older_are : found.older ≡ numbers_of (filter (is_below segments) image)
+  pub greatest_is : found.greatest ≡ unwrap_or (last_or None (numbers_of image)) 0
+  pub next_is : found.next ≡ next_lsn log
+  pub named_is : found.named ≡ log.first
+
+-- ---- images that say the same
+
+-- The second image spells what the first one spells and, unless this log is empty, by files with the same numbers and
+-- first LSNs.
+abbrev pub SpellsAlike : Image → Image → Type 0
+SpellsAlike a b = (log : Log) (segments : List Segment) → SpellsBy a segments log
+    → (others : List Segment) × SpellsBy b others log × ((log.records ≡ []) ⊎ (places others ≡ places segments))
+
+-- ---- a log up to one of its records
+
+-- the records up to the LSN n, from the lowest on that the newest of them names
+abbrev pub log_up_to : ℕ → Log → Log
+log_up_to n log = from_lowest log.first (take (n + 1 - log.first) log.records)
