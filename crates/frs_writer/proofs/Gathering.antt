@@ -1,0 +1,162 @@
+-- One record more in a chunk.
+use Rattle.std.proofs.Common.{◌≡◌, inl, inr, ⊎_elim, ℕ, ◌+◌, ◌-◌, ◌^◌, ◌<◌, ◌≤◌, List, [], ◌∷◌, ◌++◌, length, drop, Option, Some, None, IfSome, refl, sym, ◌∙◌, ap, subst, arith, append_assoc, length-append}
+use Rattle.std.specs.Prelude.{replicate}
+use Rattle.std.specs.Option.{option_to_list}
+use Rattle.std.proofs.lemmas.List.{append-nil}
+use Rattle.std.proofs.lemmas.Grind.{flat_map-append}
+use Rattle.frs_slots.specs.Views.{TakerView, next_taken}
+use Rattle.frs_writer.specs.Appending.{head_of, sealed}
+use Rattle.frs_writer.specs.Chunk.{ChunkView}
+use Rattle.frs_writer.specs.Groups.{joined, IsTooLong, Gathered, Gathers, HasGroup, Added, Stopped}
+
+joined-push : (group : List (List ℕ)) (b : List ℕ) → joined (group ++ b ∷ []) ≡ joined group ++ b
+joined-push group b = flat_map-append (λ (x : List ℕ). x) group (b ∷ []) ∙ ap (λ (l : List ℕ). joined group ++ l) (append-nil b)
+
+-- the chunk's bytes are the head and the records
+long : (chunk : ChunkView) (group : List (List ℕ)) → HasGroup chunk group → length chunk.bytes ≡ 16 + length (joined group)
+long chunk group has = ap (λ (c : ChunkView). length c.bytes) has ∙ length-append (replicate 16 0) (joined group)
+
+pub in_chunk : (chunk : ChunkView) (group : List (List ℕ)) → HasGroup chunk group → length (joined group) ≤ 2 ^ 20 → length group < 256
+    → (16 ≤ length chunk.bytes) × (length chunk.bytes ≤ 1048592) × (chunk.count < 256)
+in_chunk chunk group has fits few = (omega (arith, long chunk group has), omega (arith, long chunk group has, fits), omega (arith, ap (λ (c : ChunkView). c.count) has, few))
+
+-- nothing, or the one that was kept
+pub first_of_chunk : (kept : Option (List ℕ)) (before : TakerView) → IfSome kept (λ b. length b ≤ 65883) → Gathered before before kept (option_to_list kept)
+first_of_chunk None before fits = record { ring = (refl, refl); known = omega arith; sure = omega arith; within = λ h. h; taken = []; taken_are = sym (append-nil before.taken); group_is = refl; fits = omega arith }
+first_of_chunk (Some b) before fits = record {
+  ring = (refl, refl);
+  known = omega arith;
+  sure = omega arith;
+  within = λ h. h;
+  taken = [];
+  taken_are = sym (append-nil before.taken);
+  group_is = refl;
+  fits = omega (arith, fits, ap length (append-nil b));
+}
+
+module _ (before t now : TakerView) (kept : Option (List ℕ)) (chunk after : ChunkView) (group : List (List ℕ)) (so_far : Gathered before t kept group) (has : HasGroup chunk group) where
+  pub one_more : (a : Added t now chunk after) → Gathered before now kept (group ++ a.bytes ∷ []) × HasGroup after (group ++ a.bytes ∷ [])
+  one_more a =
+      let taken : now.taken ≡ before.taken ++ (so_far.taken ++ a.bytes ∷ []) = a.took.taken ∙ ap (λ (l : List (List ℕ)). l ++ a.bytes ∷ []) so_far.taken_are ∙ append_assoc before.taken so_far.taken (a.bytes ∷ []) in
+      let one : length now.taken ≡ length t.taken + 1 = ap length a.took.taken ∙ length-append t.taken (a.bytes ∷ []) in (
+        record {
+          ring = (a.took.ring ∙ so_far.ring.0, a.took.first ∙ so_far.ring.1);
+          known = omega (arith, so_far.known, a.took.known.0);
+          sure = omega (arith, so_far.sure, a.took.sure);
+          within = λ h. omega (arith, a.within, one, a.took.first);
+          taken = so_far.taken ++ a.bytes ∷ [];
+          taken_are = taken;
+          group_is = ap (λ (l : List (List ℕ)). l ++ a.bytes ∷ []) so_far.group_is ∙ append_assoc (option_to_list kept) so_far.taken (a.bytes ∷ []);
+          fits = omega (arith, a.fits, long chunk group has, ap length (joined-push group a.bytes), length-append (joined group) a.bytes);
+        },
+        a.added ∙ ap (λ (c : ChunkView). record { count = c.count + 1; bytes = c.bytes ++ a.bytes }) has
+            ∙ ap (λ (n : ℕ). record { count = n; bytes = (replicate 16 0 ++ joined group) ++ a.bytes }) (sym (length-append group (a.bytes ∷ [])))
+            ∙ ap (λ (b : List ℕ). record { count = length (group ++ a.bytes ∷ []); bytes = b }) (append_assoc (replicate 16 0) (joined group) a.bytes ∙ ap (λ (b : List ℕ). replicate 16 0 ++ b) (sym (joined-push group a.bytes))),
+      )
+
+  pub no_more : (limit : ℕ) (still : Option (List ℕ)) → length group ≤ limit → Stopped t now still chunk after → Gathers limit before now kept still group × HasGroup after group
+  no_more limit still most s = ⊎_elim
+      (λ n. let same : now ≡ t = n.1 in (
+        record {
+          ring = (ap (λ (v : TakerView). v.ring) same ∙ so_far.ring.0, ap (λ (v : TakerView). v.first) same ∙ so_far.ring.1);
+          known = omega (arith, so_far.known, ap (λ (v : TakerView). v.known) same);
+          sure = omega (arith, so_far.sure, ap (λ (v : TakerView). v.sure) same);
+          within = λ h. omega (arith, so_far.within h, ap next_taken same);
+          taken = so_far.taken;
+          taken_are = ap (λ (v : TakerView). v.taken) same ∙ so_far.taken_are;
+          group_is = ap (λ (o : Option (List ℕ)). group ++ option_to_list o) n.0 ∙ append-nil group ∙ so_far.group_is;
+          most = most;
+          fits = so_far.fits;
+          too_long = subst (λ (o : Option (List ℕ)). IfSome o (λ b. IsTooLong group b × (length b ≤ 65883))) (sym n.0) tt;
+          stops = inr (λ none. ap (λ (v : TakerView). v.known) same ∙ n.2 ∙ ap (λ (v : TakerView). length v.taken) (sym same));
+        },
+        s.chunk_is ∙ has,
+      ))
+      (λ k. let b = k.0 in let took = k.2 in
+      let one : length now.taken ≡ length t.taken + 1 = ap length took.taken ∙ length-append t.taken (b ∷ []) in (
+        record {
+          ring = (took.ring ∙ so_far.ring.0, took.first ∙ so_far.ring.1);
+          known = omega (arith, so_far.known, took.known.0);
+          sure = omega (arith, so_far.sure, took.sure);
+          within = λ h. omega (arith, k.3, one, took.first);
+          taken = so_far.taken ++ b ∷ [];
+          taken_are = took.taken ∙ ap (λ (l : List (List ℕ)). l ++ b ∷ []) so_far.taken_are ∙ append_assoc before.taken so_far.taken (b ∷ []);
+          group_is = ap (λ (o : Option (List ℕ)). group ++ option_to_list o) k.1 ∙ ap (λ (l : List (List ℕ)). l ++ b ∷ []) so_far.group_is ∙ append_assoc (option_to_list kept) so_far.taken (b ∷ []);
+          most = most;
+          fits = so_far.fits;
+          too_long = subst (λ (o : Option (List ℕ)). IfSome o (λ b. IsTooLong group b × (length b ≤ 65883))) (sym k.1) (omega (arith, k.4, long chunk group has), k.5);
+          stops = inr (λ none. absurd (some_none b (sym k.1 ∙ none)));
+        },
+        s.chunk_is ∙ has,
+      ))
+      s.why
+    where
+      some_none : (b : List ℕ) → Some b ≡ None → ⊥
+      some_none b is = cc
+
+  pub at_limit : (limit : ℕ) → length group ≡ limit → Gathers limit before t kept None group
+  at_limit limit most = record {
+    ring = so_far.ring;
+    known = so_far.known;
+    sure = so_far.sure;
+    within = so_far.within;
+    taken = so_far.taken;
+    taken_are = so_far.taken_are;
+    group_is = append-nil group ∙ so_far.group_is;
+    most = omega (arith, most);
+    fits = so_far.fits;
+    too_long = tt;
+    stops = inl most;
+  }
+
+-- a chunk that begins with what was kept, if anything was
+pub record Begun (before : TakerView) (kept : Option (List ℕ)) (chunk : ChunkView) : Type 0 where
+  pub group : List (List ℕ)
+  pub gathered : Gathered before before kept group
+  pub has : HasGroup chunk group
+  pub counted : length group ≡ chunk.count
+  pub one : chunk.count ≤ 1
+
+pub with_kept : (before : TakerView) (kept : Option (List ℕ)) (b : List ℕ) (chunk after : ChunkView) → kept ≡ Some b → length b ≤ 65883
+    → chunk ≡ record { count = 0; bytes = replicate 16 0 } → after ≡ record { count = chunk.count + 1; bytes = chunk.bytes ++ b } → Begun before kept after
+with_kept before kept b chunk after is short empty added =
+    let whole : after ≡ record { count = 1; bytes = replicate 16 0 ++ b } = added ∙ ap (λ (c : ChunkView). record { count = c.count + 1; bytes = c.bytes ++ b }) empty in
+    record {
+      group = b ∷ [];
+      gathered = subst (λ (o : Option (List ℕ)). Gathered before before o (b ∷ [])) (sym is) (first_of_chunk (Some b) before short);
+      has = whole ∙ ap (λ (l : List ℕ). record { count = 1; bytes = replicate 16 0 ++ l }) (sym (append-nil b));
+      counted = ap (λ (c : ChunkView). c.count) (sym whole);
+      one = omega (arith, ap (λ (c : ChunkView). c.count) whole);
+    }
+
+pub without_kept : (before : TakerView) (kept : Option (List ℕ)) (chunk after : ChunkView) → kept ≡ None
+    → chunk ≡ record { count = 0; bytes = replicate 16 0 } → after ≡ chunk → Begun before kept after
+without_kept before kept chunk after is empty same = record {
+  group = [];
+  gathered = subst (λ (o : Option (List ℕ)). Gathered before before o []) (sym is) (first_of_chunk None before tt);
+  has = same ∙ empty;
+  counted = ap (λ (c : ChunkView). c.count) (sym (same ∙ empty));
+  one = omega (arith, ap (λ (c : ChunkView). c.count) (same ∙ empty));
+}
+
+-- where nothing is in the chunk nothing was taken or kept
+pub nothing_gathered : (limit : ℕ) (before now : TakerView) (kept still : Option (List ℕ)) (group : List (List ℕ)) → Gathers limit before now kept still group → length group ≡ 0
+    → (kept ≡ None) × (still ≡ None) × (now.taken ≡ before.taken)
+nothing_gathered limit before now kept None [] g none = let (empty, same) = at kept g.taken g.group_is g.taken_are in (empty, refl, same)
+  where
+    at : (o : Option (List ℕ)) (taken : List (List ℕ)) → [] ≡ option_to_list o ++ taken → now.taken ≡ before.taken ++ taken → (o ≡ None) × (now.taken ≡ before.taken)
+    at None [] is are = (refl, are ∙ append-nil before.taken)
+    at None (b ∷ taken) is are = absurd cc
+    at (Some b) taken is are = absurd cc
+nothing_gathered limit before now kept (Some b) [] g none = absurd (omega (arith, g.too_long))
+nothing_gathered limit before now kept still (b ∷ group) g none = absurd (omega (arith, none))
+
+-- the bytes of a chunk that was sealed
+pub sealed_bytes : (first : ℕ) (chunk : ChunkView) (group : List (List ℕ)) → HasGroup chunk group
+    → head_of (length chunk.bytes - 16) chunk.count first ++ drop 16 chunk.bytes ++ 0 ∷ [] ≡ sealed first (length group) (joined group)
+sealed_bytes first chunk group has =
+    ap (λ (c : ChunkView). head_of (length c.bytes - 16) c.count first ++ drop 16 c.bytes ++ 0 ∷ []) has
+    ∙ ap (λ (n : ℕ). head_of n (length group) first ++ joined group ++ 0 ∷ []) (omega (arith, length-append (replicate 16 0) (joined group)))
+
+pub body_is : (chunk : ChunkView) (group : List (List ℕ)) → HasGroup chunk group → length chunk.bytes - 16 ≡ length (joined group)
+body_is chunk group has = omega (arith, long chunk group has)

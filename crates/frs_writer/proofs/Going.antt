@@ -1,0 +1,145 @@
+-- A group on its way to the disk: what each image shows, and what holds of the writer afterwards.
+use Rattle.std.proofs.Common.{◌≡◌, ◌⊎◌, ⊎_elim, ℕ, ◌+◌, ◌-◌, ◌^◌, ◌≤◌, Bool, List, [], ◌∷◌, ◌++◌, length, take, map, Option, Some, None, sym, ◌∙◌, ap, subst, arith, IsTrue}
+use Rattle.std.specs.Option.{option_to_list}
+use Rattle.std.proofs.lemmas.List.{map-append}
+use Rattle.std.specs.FinMap.{entries, get}
+use Rattle.frs_types.specs.declared.record.Record.{Record}
+use Rattle.frs_types.specs.Records.{Log, Placed, next_lsn}
+use Rattle.frs_disk.specs.Disk.{Image, AgreesElsewhere, IsSynced, Within, bytes_at}
+use Rattle.frs_segment.specs.declared.layout.Segment.{Segment as Described}
+use Rattle.frs_segment.specs.Segments.{Segment, segment_spelling, body, is_chunk, end_of}
+use Rattle.frs_segment.specs.Scanning.{described}
+use Rattle.frs_slots.specs.Views.{next_taken}
+use Rattle.frs_writer.specs.Appending.{IsShut, sealed}
+use Rattle.frs_writer.specs.Groups.{joined}
+use Rattle.frs_writer.specs.Holds.{IsCounted, ShowsFrom, durable_of, IsKept}
+use Rattle.frs_writer.specs.Shown.{Shows, Rests, with_chunk}
+use Rattle.frs_writer.specs.Writer.{WriterView, IsLog, IsWellOpened}
+use Rattle.frs_writer.specs.Places.{grown, with_newest_grown}
+use Rattle.frs_writer.proofs.Keeping.{Grouping, grouping, placed_before, durable_is, behind_is, grown_is, group_within, group_chunk, group_long, sealed_is, newest_is, front_read, first_is}
+use Rattle.frs_writer.proofs.Logs.{joined_body}
+use Rattle.frs_writer.proofs.Segments.{described_grown, newest_grown}
+use Rattle.frs_writer.proofs.Showing.{rests_shows}
+use Rattle.frs_writer.proofs.Steps.{one_shut, one_whole}
+
+module _ {D : Type 0} (tells : D → Bool) (reads : D → Image) (may_leave : D → Image → Type 0) (removing : D → ℕ → Type 0)
+    (moment : D → ℕ) (left_since : D → ℕ → Image → Type 0) (as_read : (disk : D) → IsTrue (tells disk) → may_leave disk (reads disk)) where
+  -- A group behind the records that are durable, and the last segment, which each image rests on.
+  pub record Behind (w w' : WriterView D) (counted : IsCounted w) (group : List (List ℕ)) (log' : Log) : Type 0 where
+    pub g : Grouping reads w w' group log'
+    pub next : next_lsn g.log ≡ next_taken w.taker
+    pub last : Segment
+    pub rest : (c : Image) → may_leave w.disk c → Rests (entries c) log'.first g.front last
+    pub newest : counted.newest ≡ described last
+    pub before : List Segment
+    pub segments : w.segments ≡ map described (before ++ last ∷ [])
+
+  pub behind : (w w' : WriterView D) (kept : IsKept tells reads may_leave removing w) (group more : List (List ℕ)) (still : Option (List ℕ)) (log' : Log)
+      → w.ended ≡ None → IsTrue (tells w.disk) → IsWellOpened reads may_leave w.opened
+      → w'.opened ≡ w.opened → w'.taker.taken ≡ w.taker.taken ++ more → group ++ option_to_list still ≡ option_to_list w.kept ++ more
+      → IsLog reads w' log' → Placed log' → Behind w w' kept.counted group log'
+  behind w w' kept group more still log' fine told well same grows parts is_log placed =
+      let g = grouping reads w w' group more still log' (kept.counted.counted fine) same grows parts is_log in
+      let held = kept.holds told well g.log g.is_log (placed_before reads w w' group log' g placed) in
+      let (last, rest, (before, segments)) = held.newest fine in
+      record {
+        g = g;
+        next = held.next_is;
+        last = last;
+        rest = λ c left.
+            let r : Rests (entries c) g.log.first (durable_of w g.log).records last = rest c left in
+            subst (λ (n : ℕ). Rests (entries c) n g.front last) (sym (first_is reads w w' group log' g placed))
+            (subst (λ (l : List Record). Rests (entries c) g.log.first l last) (durable_is reads w w' group log' g placed held.next_is) r);
+        newest = newest_is w kept.counted before last segments;
+        before = before;
+        segments = segments;
+      }
+
+  module _ (w w' : WriterView D) (counted : IsCounted w) (group : List (List ℕ)) (log' : Log) (placed : Placed log') (b : Behind w w' counted group log') where
+    -- an image that shows what was durable
+    pub shows_durable : (c : Image) → Shows (entries c) log'.first b.g.front → ShowsFrom w.synced log' (entries c)
+    shows_durable c shows = (
+      w.synced,
+      omega arith,
+      omega (arith, group_within reads w w' group log' b.g placed b.next),
+      subst (λ (l : List Record). Shows (entries c) log'.first l) (sym (behind_is reads w w' group log' b.g placed b.next)) shows,
+    )
+
+    -- and one that shows the group too
+    pub shows_grown : (c : Image) → Shows (entries c) log'.first (b.g.front ++ b.g.rs) → ShowsFrom (w.synced + length group) log' (entries c)
+    shows_grown c shows = (
+      w.synced + length group,
+      omega arith,
+      group_within reads w w' group log' b.g placed b.next,
+      subst (λ (l : List Record). Shows (entries c) log'.first l) (sym (grown_is reads w w' group log' b.g placed b.next)) shows,
+    )
+
+    pub number_is : counted.newest.number ≡ b.last.number
+    number_is = ap (λ (s : Described). s.number) b.newest
+
+    pub ends_is : end_of b.last ≡ w.synced + 1
+    ends_is = sym (ap (λ (s : Described). s.«end») b.newest) ∙ counted.ends
+
+    gate_is : counted.newest.length - 1 ≡ length (segment_spelling b.last)
+    gate_is = omega (arith, ap (λ (s : Described). s.length) b.newest)
+
+    pub front_is : IsTrue (tells w.disk) → take (counted.newest.length - 1) (bytes_at (reads w.disk) counted.newest.number) ≡ segment_spelling b.last
+    front_is told =
+        ap (λ (n : ℕ). take n (bytes_at (reads w.disk) counted.newest.number)) gate_is
+        ∙ ap (λ (n : ℕ). take (length (segment_spelling b.last)) (bytes_at (reads w.disk) n)) number_is
+        ∙ front_read tells reads may_leave removing as_read w.disk told log'.first b.g.front b.last b.rest
+
+    module _ (some : 1 ≤ length group) (few : length group ≤ 256) (fits : length (joined group) ≤ 2 ^ 20) (within : next_lsn log' ≤ 2 ^ 62) where
+      -- the file with the whole chunk
+      pub whole_rests : (c : Image) → AgreesElsewhere b.last.number (may_leave w.disk) c
+          → get c b.last.number ≡ Some (segment_spelling b.last ++ 1 ∷ sealed (w.synced + 1) (length group) (joined group))
+          → Rests (entries c) log'.first (b.g.front ++ b.g.rs) (with_chunk b.last b.g.rs)
+      whole_rests c agrees file =
+          let (e, was, same) = agrees in
+          let chunk = group_chunk reads w w' group log' b.g placed b.next some few fits in
+          one_whole log'.first b.g.front b.last e c (b.rest e was) same b.g.rs
+          (subst (λ (n : ℕ). IsTrue (is_chunk n b.g.rs)) (sym ends_is) chunk)
+          (omega (arith, ends_is, group_within reads w w' group log' b.g placed b.next, group_long reads w w' group log' b.g placed, within))
+          (file ∙ ap (λ (l : List ℕ). Some (segment_spelling b.last ++ 1 ∷ l)) (sealed_is reads w w' group log' b.g placed ∙ ap (λ (n : ℕ). sealed n (length b.g.rs) (body b.g.rs)) (sym ends_is)))
+
+      -- at any moment of the write
+      pub group_images : IsTrue (tells w.disk) → (d : D) → Within moment left_since w.disk d (AgreesElsewhere counted.newest.number (may_leave w.disk))
+          → Within moment left_since w.disk d (λ c. IsShut (take (counted.newest.length - 1) (bytes_at (reads w.disk) counted.newest.number)) (get c counted.newest.number)
+          ⊎ (get c counted.newest.number ≡ Some (take (counted.newest.length - 1) (bytes_at (reads w.disk) counted.newest.number) ++ 1 ∷ sealed (w.synced + 1) (length group) (joined group))))
+          → Within moment left_since w.disk d (λ c. ShowsFrom w.synced log' (entries c))
+      group_images told d elsewhere images c left =
+          let agrees : AgreesElsewhere b.last.number (may_leave w.disk) c = subst (λ (n : ℕ). AgreesElsewhere n (may_leave w.disk) c) number_is (elsewhere c left) in
+          ⊎_elim
+          (λ shut.
+          let (e, was, same) = agrees in
+          let here : IsShut (segment_spelling b.last) (get c b.last.number) = subst (λ (n : ℕ). IsShut (segment_spelling b.last) (get c n)) number_is (subst (λ (l : List ℕ). IsShut l (get c counted.newest.number)) (front_is told) shut) in
+          shows_durable c (one_shut log'.first b.g.front b.last e c (b.rest e was) same here))
+          (λ whole.
+          let here : get c b.last.number ≡ Some (segment_spelling b.last ++ 1 ∷ sealed (w.synced + 1) (length group) (joined group)) =
+          subst (λ (n : ℕ). get c n ≡ Some (segment_spelling b.last ++ 1 ∷ sealed (w.synced + 1) (length group) (joined group))) number_is
+          (whole ∙ ap (λ (l : List ℕ). Some (l ++ 1 ∷ sealed (w.synced + 1) (length group) (joined group))) (front_is told)) in
+          let (n, least, most, shows) = shows_grown c (rests_shows (whole_rests c agrees here)) in
+          (n, omega (arith, least), most, shows))
+          (images c left)
+
+      -- and afterwards
+      pub group_rests : IsTrue (tells w.disk) → (d : D) → ((c : Image) → may_leave d c → left_since d (moment w.disk) c)
+          → Within moment left_since w.disk d (AgreesElsewhere counted.newest.number (may_leave w.disk)) → IsSynced reads may_leave d counted.newest.number
+          → get (reads d) counted.newest.number ≡ Some (take (counted.newest.length - 1) (bytes_at (reads w.disk) counted.newest.number) ++ 1 ∷ sealed (w.synced + 1) (length group) (joined group))
+          → (c : Image) → may_leave d c → Rests (entries c) log'.first (b.g.front ++ b.g.rs) (with_chunk b.last b.g.rs)
+      group_rests told d counts elsewhere durable written c left =
+          let agrees : AgreesElsewhere b.last.number (may_leave w.disk) c = subst (λ (n : ℕ). AgreesElsewhere n (may_leave w.disk) c) number_is (elsewhere c (counts c left)) in
+          let whole : get c counted.newest.number ≡ Some (take (counted.newest.length - 1) (bytes_at (reads w.disk) counted.newest.number) ++ 1 ∷ sealed (w.synced + 1) (length group) (joined group)) = durable c left ∙ written in
+          whole_rests c agrees
+          (subst (λ (n : ℕ). get c n ≡ Some (segment_spelling b.last ++ 1 ∷ sealed (w.synced + 1) (length group) (joined group))) number_is
+          (whole ∙ ap (λ (l : List ℕ). Some (l ++ 1 ∷ sealed (w.synced + 1) (length group) (joined group))) (front_is told)))
+
+      pub segments_grown : with_newest_grown (length group) (length (joined group)) w.segments ≡ map described (b.before ++ with_chunk b.last b.g.rs ∷ [])
+      segments_grown =
+          let size : length (joined group) ≡ length (body b.g.rs) = ap length (ap joined b.g.group_is ∙ joined_body b.g.rs) in
+          ap (with_newest_grown (length group) (length (joined group))) (b.segments ∙ map-append described b.before (b.last ∷ []))
+          ∙ newest_grown (length group) (length (joined group)) (map described b.before) (described b.last)
+          ∙ ap (λ (n : ℕ). map described b.before ++ grown n (length (joined group)) (described b.last) ∷ []) (sym (group_long reads w w' group log' b.g placed))
+          ∙ ap (λ (n : ℕ). map described b.before ++ grown (length b.g.rs) n (described b.last) ∷ []) size
+          ∙ ap (λ (s : Described). map described b.before ++ s ∷ []) (sym (described_grown b.last b.g.rs))
+          ∙ sym (map-append described b.before (with_chunk b.last b.g.rs ∷ []))

@@ -1,0 +1,241 @@
+-- What holds of a writer that goes on to a new segment, and of one that found nothing to write.
+use Rattle.std.proofs.Common.{◌≡◌, inl, inr, ℕ, ◌+◌, ◌^◌, ◌<◌, ◌≤◌, Bool, List, [], ◌∷◌, ◌++◌, length, get_or, set, map, Option, Some, None, refl, sym, ◌∙◌, ap, subst, arith, IsTrue}
+use Rattle.std.specs.List.{All}
+use Rattle.std.proofs.lemmas.Bool.{cases_eq}
+use Rattle.std.proofs.lemmas.List.{map-append, get_or-set_same, get_or-set_other, length-set}
+use Rattle.std.specs.Prelude.{Result, Ok, Err, OnOk, OnErr}
+use Rattle.std.specs.FinMap.{entries, get}
+use Rattle.frs_types.specs.Records.{Log, Placed}
+use Rattle.frs_disk.specs.declared.disk.Fault.{Fault}
+use Rattle.frs_disk.specs.Disk.{Image, AgreesElsewhere, SameElsewhere, IsSynced, Within}
+use Rattle.frs_segment.specs.Front.{IsInTheMaking, empty_segment}
+use Rattle.frs_segment.specs.declared.layout.Segment.{Segment as Described}
+use Rattle.frs_segment.specs.Segments.{Segment}
+use Rattle.frs_segment.specs.Scanning.{described}
+use Rattle.frs_slots.specs.Views.{TakerView}
+use Rattle.frs_writer.specs.Appending.{IsAtGate}
+use Rattle.frs_writer.specs.Holds.{IsCounted, ShowsFrom, durable_of, Holds, IsKept}
+use Rattle.frs_writer.specs.Shown.{Rests, new_segment}
+use Rattle.frs_writer.specs.Writer.{WriterView, IsLog, IsWellOpened}
+use Rattle.frs_writer.proofs.Keeping.{newest_is}
+use Rattle.frs_writer.proofs.Showing.{rests_shows, rests_end}
+use Rattle.frs_writer.proofs.Steps.{one_next, one_making}
+
+some_none : (f : Fault) → Some f ≡ None → ⊥
+some_none f is = cc
+
+-- an empty segment ends in its closed gate
+pub empty_gate : (number first : ℕ) (file : Option (List ℕ)) → file ≡ Some (empty_segment number first) → IsAtGate 22 file
+empty_gate number first file is = subst (IsAtGate 22) (sym is) (refl, refl)
+
+module _ {D : Type 0} (tells : D → Bool) (reads : D → Image) (may_leave : D → Image → Type 0) (removing : D → ℕ → Type 0)
+    (moment : D → ℕ) (left_since : D → ℕ → Image → Type 0)
+    (counts_now : (disk : D) (t : ℕ) (c : Image) → t ≤ moment disk → may_leave disk c → left_since disk t c)
+    (stays_absent : (disk : D) (number : ℕ) (c : Image) → IsTrue (tells disk) → get (reads disk) number ≡ None → (removing disk number → ⊥) → may_leave disk c → get c number ≡ None)
+    (w : WriterView D) (kept : IsKept tells reads may_leave removing w) (fine : w.ended ≡ None) (d : D) where
+  abbrev pub next_number : ℕ
+  next_number = kept.counted.newest.number + 1
+
+  -- the writer with the new segment
+  abbrev pub rolled_view : WriterView D
+  rolled_view = record { opened = w.opened; disk = d; taker = w.taker; kept = w.kept; segments = w.segments ++ described (new_segment next_number (w.synced + 1)) ∷ []; noted = w.noted; synced = w.synced; ended = None }
+
+  -- and where its making was cut short
+  abbrev pub cut_view : Fault → WriterView D
+  cut_view fault = record { opened = w.opened; disk = d; taker = w.taker; kept = w.kept; segments = w.segments; noted = w.noted; synced = w.synced; ended = Some fault }
+
+  counted_cut : (fault : Fault) → IsCounted (cut_view fault)
+  counted_cut fault = record {
+    older = kept.counted.older;
+    newest = kept.counted.newest;
+    segments = kept.counted.segments;
+    number = kept.counted.number;
+    ends = kept.counted.ends;
+    long = kept.counted.long;
+    least = kept.counted.least;
+    first = kept.counted.first;
+    most = kept.counted.most;
+    written = kept.counted.written;
+    counted = λ none. absurd (some_none fault none);
+    clients = kept.counted.clients;
+    noted = kept.counted.noted;
+  }
+
+  module _ (later : moment w.disk ≤ moment d) (told_same : tells d ≡ tells w.disk) (high : next_number < 2 ^ 62) (below : w.synced + 1 < 2 ^ 62)
+      (elsewhere : Within moment left_since w.disk d (AgreesElsewhere next_number (may_leave w.disk)))
+      (making : IsTrue (tells w.disk) → Within moment left_since w.disk d (λ c. IsInTheMaking next_number (w.synced + 1) (get c next_number))) where
+    told_before : IsTrue (tells d) → IsTrue (tells w.disk)
+    told_before told = subst IsTrue told_same told
+
+    none_there : IsTrue (tells w.disk) → (e : Image) → may_leave w.disk e → (q : ℕ) → next_number ≤ q → get e q ≡ None
+    none_there told e was q at =
+        let work = kept.at_work fine told in
+        stays_absent w.disk q e told (work.none_above q (omega (arith, at))) (work.none_removed q (omega (arith, at))) was
+
+    module _ (told : IsTrue (tells w.disk)) (well : IsWellOpened reads may_leave w.opened) (log : Log) (is_log : IsLog reads w log) (placed : Placed log) where
+      held : Holds reads may_leave w log
+      held = kept.holds told well log is_log placed
+
+      ends_at : (last : Segment) (c : Image) → Rests (entries c) log.first (durable_of w log).records last → (before : List Segment) → w.segments ≡ map described (before ++ last ∷ []) → w.synced + 1 ≡ log.first + length (durable_of w log).records
+      ends_at last c rests before segments = sym kept.counted.ends ∙ ap (λ (s : Described). s.«end») (newest_is w kept.counted before last segments) ∙ rests_end rests
+
+      pub rolled_images : Within moment left_since w.disk d (λ c. ShowsFrom w.synced log (entries c))
+      rolled_images c left =
+          let (e, was, same) = elsewhere c left in
+          let (last, rest, (before, segments)) = held.newest fine in (
+            w.synced,
+            omega arith,
+            omega (arith, held.next_is, kept.counted.written),
+            one_making log.first (durable_of w log).records next_number (w.synced + 1) e c (rests_shows (rest e was)) same (none_there told e was)
+                (ends_at last e (rest e was) before segments) (omega (arith, kept.counted.number)) high (omega arith) below (making told c left),
+          )
+
+      rolled_rests : IsSynced reads may_leave d next_number → get (reads d) next_number ≡ Some (empty_segment next_number (w.synced + 1))
+          → (c : Image) → may_leave d c → Rests (entries c) log.first (durable_of w log).records (new_segment next_number (w.synced + 1))
+      rolled_rests durable made c left =
+          let (e, was, same) = elsewhere c (counts_now d (moment w.disk) c later left) in
+          let (last, rest, (before, segments)) = held.newest fine in
+          one_next log.first (durable_of w log).records next_number (w.synced + 1) e c (rests_shows (rest e was)) same (none_there told e was)
+          (ends_at last e (rest e was) before segments) (omega (arith, kept.counted.number)) high (omega arith) below (durable c left ∙ made)
+
+      rolled_holds : IsSynced reads may_leave d next_number → get (reads d) next_number ≡ Some (empty_segment next_number (w.synced + 1)) → Holds reads may_leave rolled_view log
+      rolled_holds durable made =
+          let (last, rest, (before, segments)) = held.newest fine in
+          record {
+            next_is = held.next_is;
+            each = λ c left. (w.synced, omega arith, omega (arith, held.next_is, kept.counted.written), rests_shows (rolled_rests durable made c left));
+            newest = λ none. (
+              new_segment next_number (w.synced + 1),
+              rolled_rests durable made,
+              (
+                before ++ last ∷ [],
+                ap (λ (l : List Described). l ++ described (new_segment next_number (w.synced + 1)) ∷ []) segments
+                    ∙ sym (map-append described (before ++ last ∷ []) (new_segment next_number (w.synced + 1) ∷ [])),
+              ),
+            );
+          }
+
+    pub kept_cut : (fault : Fault) → IsKept tells reads may_leave removing (cut_view fault)
+    kept_cut fault = record {
+      counted = counted_cut fault;
+      told = told_same ∙ kept.told;
+      at_work = λ none. absurd (some_none fault none);
+      holds = λ told well log is_log placed.
+          let l : IsLog reads w log = record { base = is_log.base; spelled = is_log.spelled; taken = is_log.taken; bytes = is_log.bytes; is = is_log.is } in
+          record {
+            next_is = (kept.holds (told_before told) well log l placed).next_is;
+            each = λ c left. rolled_images (told_before told) well log l placed c (counts_now d (moment w.disk) c later left);
+            newest = λ none. absurd (some_none fault none);
+          };
+    }
+
+    module _ (durable : IsSynced reads may_leave d next_number) (others : IsTrue (tells w.disk) → SameElsewhere next_number (reads w.disk) (reads d)) (pending : (n : ℕ) → removing d n → removing w.disk n)
+        (made : IsTrue (tells w.disk) → get (reads d) next_number ≡ Some (empty_segment next_number (w.synced + 1))) where
+      counted_rolled : IsCounted rolled_view
+      counted_rolled = record {
+        older = w.segments;
+        newest = described (new_segment next_number (w.synced + 1));
+        segments = refl;
+        number = (omega (arith, kept.counted.number), high);
+        ends = omega arith;
+        long = (omega arith, omega arith);
+        least = kept.counted.least;
+        first = kept.counted.first;
+        most = kept.counted.most;
+        written = kept.counted.written;
+        counted = λ none. kept.counted.counted fine;
+        clients = kept.counted.clients;
+        noted = kept.counted.noted;
+      }
+
+      pub kept_rolled : IsKept tells reads may_leave removing rolled_view
+      unfolding counted_rolled
+      kept_rolled = record {
+        counted = counted_rolled;
+        told = told_same ∙ kept.told;
+        at_work = λ none told.
+            let work = kept.at_work fine (told_before told) in
+            record {
+              gate = empty_gate next_number (w.synced + 1) (get (reads d) next_number) (made (told_before told));
+              durable = durable;
+              none_above = λ q above. others (told_before told) q (omega (arith, above)) ∙ work.none_above q (omega (arith, above));
+              none_removed = λ q above pends. work.none_removed q (omega (arith, above)) (pending q pends);
+            };
+        holds = λ told well log is_log placed.
+            rolled_holds (told_before told) well log (record { base = is_log.base; spelled = is_log.spelled; taken = is_log.taken; bytes = is_log.bytes; is = is_log.is }) placed durable (made (told_before told));
+      }
+
+-- ---- other records of the ring are known
+
+-- the taker has taken no more, and the same is kept
+pub kept_same : {D : Type 0} (tells : D → Bool) (reads : D → Image) (may_leave : D → Image → Type 0) (removing : D → ℕ → Type 0) (w : WriterView D) (t : TakerView)
+    → t.first ≡ w.taker.first → t.taken ≡ w.taker.taken → IsKept tells reads may_leave removing w → IsKept tells reads may_leave removing (record w { taker = t })
+kept_same tells reads may_leave removing w t first taken kept = record {
+  counted = record {
+    older = kept.counted.older;
+    newest = kept.counted.newest;
+    segments = kept.counted.segments;
+    number = kept.counted.number;
+    ends = kept.counted.ends;
+    long = kept.counted.long;
+    least = omega (arith, kept.counted.least, first);
+    first = omega (arith, kept.counted.first, first);
+    most = omega (arith, kept.counted.most, first, ap length taken);
+    written = omega (arith, kept.counted.written, first, ap length taken);
+    counted = λ fine. let (written, is, counts) = kept.counted.counted fine in (written, taken ∙ is, omega (arith, counts, first));
+    clients = kept.counted.clients;
+    noted = kept.counted.noted;
+  };
+  told = kept.told;
+  at_work = kept.at_work;
+  holds = λ told well log is_log placed.
+      let held = kept.holds told well log (record { base = is_log.base; spelled = is_log.spelled; taken = is_log.taken; bytes = sym taken ∙ is_log.bytes; is = is_log.is }) placed in
+      record {
+        next_is = omega (arith, held.next_is, first, ap length taken);
+        each = held.each;
+        newest = held.newest;
+      };
+}
+
+-- ---- another LSN is noted
+
+all_set : (n : ℕ) (ns : List ℕ) (i m : ℕ) → m ≤ n → All (λ k. k ≤ n) ns → All (λ k. k ≤ n) (set ns i m)
+all_set n ns i m le all k d lt = elim (cases_eq k i) [
+  | inl same ↦ subst (λ (j : ℕ). get_or (set ns i m) j d ≤ n) (sym same) (subst (λ (x : ℕ). x ≤ n) (sym (get_or-set_same ns i m d (omega (arith, lt, same, length-set ns i m)))) le)
+  | inr other ↦ subst (λ (x : ℕ). x ≤ n) (sym (get_or-set_other ns i k m d other)) (all k d (omega (arith, lt, length-set ns i m)))
+]
+
+pub kept_noted : {D : Type 0} (tells : D → Bool) (reads : D → Image) (may_leave : D → Image → Type 0) (removing : D → ℕ → Type 0) (w : WriterView D) (at lsn : ℕ)
+    → lsn ≤ w.synced → IsKept tells reads may_leave removing w → IsKept tells reads may_leave removing (record w { noted = set w.noted at lsn })
+kept_noted tells reads may_leave removing w at lsn le kept = record {
+  counted = record {
+    older = kept.counted.older;
+    newest = kept.counted.newest;
+    segments = kept.counted.segments;
+    number = kept.counted.number;
+    ends = kept.counted.ends;
+    long = kept.counted.long;
+    least = kept.counted.least;
+    first = kept.counted.first;
+    most = kept.counted.most;
+    written = kept.counted.written;
+    counted = λ fine. kept.counted.counted fine;
+    clients = (omega (arith, kept.counted.clients.0, length-set w.noted at lsn), omega (arith, kept.counted.clients.1, length-set w.noted at lsn));
+    noted = all_set w.synced w.noted at lsn le kept.counted.noted;
+  };
+  told = kept.told;
+  at_work = kept.at_work;
+  holds = λ told well log is_log placed.
+      let held = kept.holds told well log (record { base = is_log.base; spelled = is_log.spelled; taken = is_log.taken; bytes = is_log.bytes; is = is_log.is }) placed in
+      record {
+        next_is = held.next_is;
+        each = held.each;
+        newest = held.newest;
+      };
+}
+
+-- ---- what holds of both answers
+
+pub by_answer : {X E P A B : Type 0} (r : Result X E) → OnOk r A → OnErr r B → (A → P) → (B → P) → P
+by_answer (Ok x) a b f h = f a
+by_answer (Err e) a b f h = h b

@@ -1,0 +1,557 @@
+-- What an image shows of a log, as its newest file grows, one more is made, and the newest files are read.
+use Rattle.std.proofs.Common.{◌≡◌, ◌≢◌, inl, inr, ⊎_elim, ℕ, ◌+◌, ◌-◌, ◌^◌, ◌<◌, ◌≤◌, Bool, true, false, not, cond, ◌&&◌, List, [], ◌∷◌, ◌++◌, length, take, drop, Option, Some, None, refl, sym, ap, subst, ◌∙◌, arith, IsTrue, append_assoc, length-append, take-append-drop, length-take-le, nat_lt, nat_le, nat_eq, slice_index, unwrap_or, option_map}
+use Rattle.std.specs.List.{AllZip, last_or, list_all, flat_map}
+use Rattle.std.specs.Ordering.{nat_cmp}
+use Rattle.std.specs.FinMap.Entries.{is_sorted}
+use Rattle.std.proofs.lemmas.Bool.{and_parts, and_from, and_left, and_right, cases_lt, ne_eqb, eq-eqb, eqb-true, le-leb, leb-true, lt-ltb, lt-leb}
+use Rattle.std.proofs.lemmas.List.{append-nil, drop_all}
+use Rattle.std.proofs.lemmas.List.Elements.{filter-append}
+use Rattle.std.proofs.lemmas.Grind.{flat_map-append}
+use Rattle.std.proofs.Math.Seq.{drop-append-add}
+use Rattle.frs_types.specs.declared.record.Record.{Record}
+use Rattle.frs_types.specs.Records.{Log, allowed, allowed_from, kind_allows, has_words, named_lowest, from_lowest}
+use Rattle.frs_segment.specs.Front.{header, empty_segment, IsHalfMade}
+use Rattle.frs_segment.specs.Segments.{File, Segment, IsSegment, Image, records_of, end_of, body, chunk_bytes, chunks_bytes, segment_spelling, is_chunk, are_chunks, is_open, open_files, all_records, follow_from, first_alone_reaches, first_of, are_enough, SpellsBy, Spells}
+use Rattle.frs_writer.specs.Shown.{Shows, Rests, file_of, with_chunk, new_segment}
+
+-- ---- open files
+
+-- a file that begins as a segment and has a byte behind it is open
+spelled_open : (n : ℕ) (s : Segment) (gate : ℕ) (rest : List ℕ) → is_open (n, segment_spelling s ++ gate ∷ rest) ≡ true
+spelled_open n s gate rest =
+    let long : 23 ≤ length (segment_spelling s ++ gate ∷ rest) = omega (arith, length-append (segment_spelling s) (gate ∷ rest), length-append (1 ∷ header s.number s.first) (chunks_bytes s.first s.chunks)) in
+    and_from _ _ (le-leb 23 (length (segment_spelling s ++ gate ∷ rest)) long) refl
+
+half_shut : (n : ℕ) (b : List ℕ) → IsHalfMade b → is_open (n, b) ≡ false
+half_shut n b half = ⊎_elim
+    (λ short. and_left (nat_le 23 (length b)) (nat_eq (slice_index b 0) 1) (lt-leb 23 (length b) short))
+    (λ gate. and_right (nat_le 23 (length b)) (nat_eq (slice_index b 0) 1) (ne_eqb (slice_index b 0) 1 gate)) half
+
+open_more : (image : Image) (f : File) → is_open f ≡ true → open_files (image ++ f ∷ []) ≡ open_files image ++ f ∷ []
+open_more image f is = filter-append is_open image (f ∷ []) ∙ ap (λ (o : Bool). open_files image ++ cond o (f ∷ []) []) is
+
+open_as_before : (image : Image) (f : File) → is_open f ≡ false → open_files (image ++ f ∷ []) ≡ open_files image
+open_as_before image f is = filter-append is_open image (f ∷ []) ∙ ap (λ (o : Bool). open_files image ++ cond o (f ∷ []) []) is ∙ append-nil (open_files image)
+
+-- ---- lists of segments
+
+zip_more : (looked : List File) (segments : List Segment) (f : File) (s : Segment) → AllZip IsSegment looked segments → IsSegment f s → AllZip IsSegment (looked ++ f ∷ []) (segments ++ s ∷ [])
+zip_more [] [] f s each is = (is, tt)
+zip_more [] (t ∷ segments) f s each is = absurd each
+zip_more (g ∷ looked) [] f s each is = absurd each
+zip_more (g ∷ looked) (t ∷ segments) f s each is = (each.0, zip_more looked segments f s each.1 is)
+
+all_records-append : (a b : List Segment) → all_records (a ++ b) ≡ all_records a ++ all_records b
+all_records-append a b = flat_map-append records_of a b
+
+all_records_more : (segments : List Segment) (s : Segment) → all_records (segments ++ s ∷ []) ≡ all_records segments ++ records_of s
+all_records_more segments s = all_records-append segments (s ∷ []) ∙ ap (λ (rs : List Record). all_records segments ++ rs) (append-nil (records_of s))
+
+-- segments that follow each other, taken apart and put together
+follow_behind : (n : ℕ) (a b : List Segment) → IsTrue (follow_from n (a ++ b)) → IsTrue (follow_from (n + length (all_records a)) b)
+follow_behind n [] b is = subst (λ (k : ℕ). IsTrue (follow_from k b)) (omega arith) is
+follow_behind n (s ∷ a) b is =
+    let parts = and_parts (nat_eq s.first n) (follow_from (end_of s) (a ++ b)) is in
+    let e : end_of s + length (all_records a) ≡ n + length (all_records (s ∷ a)) = omega (arith, eqb-true s.first n parts.0, length-append (records_of s) (all_records a)) in
+    subst (λ (k : ℕ). IsTrue (follow_from k b)) e (follow_behind (end_of s) a b parts.1)
+
+follow_more : (n : ℕ) (segments : List Segment) (s : Segment) → IsTrue (follow_from n segments) → s.first ≡ n + length (all_records segments) → IsTrue (follow_from n (segments ++ s ∷ []))
+follow_more n [] s is first = and_from _ _ (eq-eqb s.first n (omega (arith, first))) refl
+follow_more n (t ∷ segments) s is first =
+    let parts = and_parts (nat_eq t.first n) (follow_from (end_of t) segments) is in
+    let e : s.first ≡ end_of t + length (all_records segments) = omega (arith, first, eqb-true t.first n parts.0, length-append (records_of t) (all_records segments)) in
+    and_from _ _ parts.0 (follow_more (end_of t) segments s parts.1 e)
+
+-- the last one may have more records
+follow_longer : (n : ℕ) (segments : List Segment) (s : Segment) (rs : List Record) → IsTrue (follow_from n (segments ++ s ∷ [])) → IsTrue (follow_from n (segments ++ with_chunk s rs ∷ []))
+follow_longer n [] s rs is = is
+follow_longer n (t ∷ segments) s rs is =
+    let parts = and_parts (nat_eq t.first n) (follow_from (end_of t) (segments ++ s ∷ [])) is in
+    and_from _ _ parts.0 (follow_longer (end_of t) segments s rs parts.1)
+
+first_longer : (segments : List Segment) (s : Segment) (rs : List Record) → first_of (segments ++ with_chunk s rs ∷ []) ≡ first_of (segments ++ s ∷ [])
+first_longer [] s rs = refl
+first_longer (t ∷ segments) s rs = refl
+
+-- ---- one more chunk
+
+chunks_more : (n : ℕ) (chunks : List (List Record)) (rs : List Record) → IsTrue (are_chunks n chunks) → IsTrue (is_chunk (n + length (flat_map (λ (x : List Record). x) chunks)) rs) → IsTrue (are_chunks n (chunks ++ rs ∷ []))
+chunks_more n [] rs all one = and_from (is_chunk n rs) true (subst (λ (k : ℕ). IsTrue (is_chunk k rs)) (omega arith) one) refl
+chunks_more n (qs ∷ chunks) rs all one =
+    let parts = and_parts (is_chunk n qs) (are_chunks (n + length qs) chunks) all in
+    let e : n + length (flat_map (λ (x : List Record). x) (qs ∷ chunks)) ≡ n + length qs + length (flat_map (λ (x : List Record). x) chunks) = omega (arith, length-append qs (flat_map (λ (x : List Record). x) chunks)) in
+    and_from (is_chunk n qs) (are_chunks (n + length qs) (chunks ++ rs ∷ [])) parts.0 (chunks_more (n + length qs) chunks rs parts.1 (subst (λ (k : ℕ). IsTrue (is_chunk k rs)) e one))
+
+bytes_more : (n : ℕ) (chunks : List (List Record)) (rs : List Record) → chunks_bytes n (chunks ++ rs ∷ []) ≡ chunks_bytes n chunks ++ chunk_bytes (n + length (flat_map (λ (x : List Record). x) chunks)) rs
+bytes_more n [] rs = append-nil (chunk_bytes n rs) ∙ ap (λ (k : ℕ). chunk_bytes k rs) (omega arith)
+bytes_more n (qs ∷ chunks) rs =
+    let e : n + length qs + length (flat_map (λ (x : List Record). x) chunks) ≡ n + length (flat_map (λ (x : List Record). x) (qs ∷ chunks)) = omega (arith, length-append qs (flat_map (λ (x : List Record). x) chunks)) in
+    ap (λ (b : List ℕ). chunk_bytes n qs ++ b) (bytes_more (n + length qs) chunks rs)
+    ∙ sym (append_assoc (chunk_bytes n qs) (chunks_bytes (n + length qs) chunks) (chunk_bytes (n + length qs + length (flat_map (λ (x : List Record). x) chunks)) rs))
+    ∙ ap (λ (k : ℕ). (chunk_bytes n qs ++ chunks_bytes (n + length qs) chunks) ++ chunk_bytes k rs) e
+
+records_more : (s : Segment) (rs : List Record) → records_of (with_chunk s rs) ≡ records_of s ++ rs
+records_more s rs = flat_map-append (λ (x : List Record). x) s.chunks (rs ∷ []) ∙ ap (λ (x : List Record). records_of s ++ x) (append-nil rs)
+
+-- the bytes of a segment with one more chunk
+pub chunk_spelling : (s : Segment) (rs : List Record) → segment_spelling (with_chunk s rs) ≡ segment_spelling s ++ chunk_bytes (end_of s) rs
+chunk_spelling s rs =
+    ap (λ (b : List ℕ). (1 ∷ header s.number s.first) ++ b) (bytes_more s.first s.chunks rs)
+    ∙ sym (append_assoc (1 ∷ header s.number s.first) (chunks_bytes s.first s.chunks) (chunk_bytes (end_of s) rs))
+
+-- and its end
+pub chunk_end : (s : Segment) (rs : List Record) → end_of (with_chunk s rs) ≡ end_of s + length rs
+chunk_end s rs = omega (arith, ap length (records_more s rs), length-append (records_of s) rs)
+
+-- a chunk has a record
+some_record : (n : ℕ) (rs : List Record) → IsTrue (is_chunk n rs) → 1 ≤ length rs
+some_record n rs is =
+    let a = and_parts (nat_le 1 (length rs) && nat_le (length rs) 256 && nat_le (length (body rs)) (2 ^ 20)) (allowed_from n rs) is in
+    let b = and_parts (nat_le 1 (length rs) && nat_le (length rs) 256) (nat_le (length (body rs)) (2 ^ 20)) a.0 in
+    leb-true 1 (length rs) (and_parts (nat_le 1 (length rs)) (nat_le (length rs) 256) b.0).0
+
+-- ---- the newest file, and what is written to it
+
+-- whatever stands behind the last file's closed gate
+pub rests_shut : {image : Image} {first : ℕ} {records : List Record} {last : Segment} → (r : Rests image first records last) → (c : Image) (gate : ℕ) (rest : List ℕ) → gate ≢ 1 → IsTrue (is_sorted nat_cmp c)
+    → c ≡ r.front ++ (last.number, segment_spelling last ++ gate ∷ rest) ∷ [] → Shows c first records
+rests_shut {last = last} r c gate rest other sorted is =
+    let file : File = (last.number, segment_spelling last ++ gate ∷ rest) in
+    record {
+      rising = sorted;
+      older = r.older;
+      looked = r.looked ++ file ∷ [];
+      files = sym (append_assoc r.older r.looked (file ∷ [])) ∙ ap (λ (x : Image). x ++ file ∷ []) r.open_ones ∙ sym (open_more r.front file (spelled_open last.number last gate rest)) ∙ sym (ap open_files is);
+      segments = r.segments ++ last ∷ [];
+      each = zip_more r.looked r.segments file last r.each made;
+      follow = r.follow;
+      earlier = r.earlier;
+      begins = r.begins;
+      shown = r.shown;
+      whole = r.whole;
+    }
+  where
+    made : IsSegment (last.number, segment_spelling last ++ gate ∷ rest) last
+    made = record {
+      number = refl;
+      gate = gate;
+      rest = rest;
+      closed = ap not (ne_eqb gate 1 other);
+      bytes = refl;
+      chunks = r.made.chunks;
+      starts = r.made.starts;
+      within = r.made.within;
+    }
+
+-- as it stands
+pub rests_shows : {image : Image} {first : ℕ} {records : List Record} {last : Segment} → Rests image first records last → Shows image first records
+rests_shows {image = image} r = rests_shut r image 0 [] (omega arith) r.rising r.files
+
+-- the last file ends at the next LSN
+pub rests_end : {image : Image} {first : ℕ} {records : List Record} {last : Segment} → Rests image first records last → end_of last ≡ first + length records
+rests_end {records = records} {last = last} r =
+    let start = first_of (r.segments ++ last ∷ []) in
+    let here = and_parts (nat_eq last.first (start + length (all_records r.segments))) true (follow_behind start r.segments (last ∷ []) r.follow) in
+    omega (
+      arith,
+      eqb-true last.first (start + length (all_records r.segments)) here.0,
+      r.begins,
+      ap length (sym (all_records_more r.segments last) ∙ r.shown),
+      length-append (all_records r.segments) (records_of last),
+      length-append r.earlier records,
+    )
+
+-- the last file has one more chunk
+pub rests_chunk : {image : Image} {first : ℕ} {records : List Record} {last : Segment} → (r : Rests image first records last) → (rs : List Record) → IsTrue (is_chunk (end_of last) rs) → end_of last + length rs ≤ 2 ^ 62
+    → (c : Image) → IsTrue (is_sorted nat_cmp c) → c ≡ r.front ++ file_of (with_chunk last rs) ∷ [] → Rests c first (records ++ rs) (with_chunk last rs)
+rests_chunk {records = records} {last = last} r rs chunk within c sorted is = record {
+  rising = sorted;
+  front = r.front;
+  files = is;
+  made = record {
+    number = refl;
+    gate = 0;
+    rest = [];
+    closed = refl;
+    bytes = refl;
+    chunks = chunks_more last.first last.chunks rs r.made.chunks chunk;
+    starts = r.made.starts;
+    within = and_from _ _ (le-leb (end_of (with_chunk last rs)) (2 ^ 62) (omega (arith, chunk_end last rs, within))) (and_parts (nat_le (end_of last) (2 ^ 62)) (nat_lt last.number (2 ^ 62)) r.made.within).1;
+  };
+  older = r.older;
+  looked = r.looked;
+  open_ones = r.open_ones;
+  segments = r.segments;
+  each = r.each;
+  follow = subst (λ (n : ℕ). IsTrue (follow_from n (r.segments ++ with_chunk last rs ∷ []))) (sym (first_longer r.segments last rs)) (follow_longer (first_of (r.segments ++ last ∷ [])) r.segments last rs r.follow);
+  earlier = r.earlier;
+  begins = ap (λ (n : ℕ). n + length r.earlier) (first_longer r.segments last rs) ∙ r.begins;
+  shown =
+      all_records_more r.segments (with_chunk last rs) ∙ ap (λ (x : List Record). all_records r.segments ++ x) (records_more last rs)
+      ∙ sym (append_assoc (all_records r.segments) (records_of last) rs) ∙ ap (λ (x : List Record). x ++ rs) (sym (all_records_more r.segments last) ∙ r.shown)
+      ∙ append_assoc r.earlier records rs;
+  whole = λ none. absurd (omega (arith, some_record (end_of last) rs chunk, ap length none, length-append records rs));
+}
+
+-- ---- one more file
+
+-- a half-made file above the others
+pub shows_half : {image : Image} {first : ℕ} {records : List Record} → Shows image first records → (n : ℕ) (b : List ℕ) → IsHalfMade b → (c : Image) → IsTrue (is_sorted nat_cmp c) → c ≡ image ++ (n, b) ∷ [] → Shows c first records
+shows_half {image = image} s n b half c sorted is = record {
+  rising = sorted;
+  older = s.older;
+  looked = s.looked;
+  files = s.files ∙ sym (open_as_before image (n, b) (half_shut n b half)) ∙ sym (ap open_files is);
+  segments = s.segments;
+  each = s.each;
+  follow = s.follow;
+  earlier = s.earlier;
+  begins = s.begins;
+  shown = s.shown;
+  whole = s.whole;
+}
+
+-- what a segment without a chunk is behind others
+record Next (segments : List Segment) (earlier records : List Record) (first : ℕ) (t : Segment) : Type 0 where
+  follow : IsTrue (follow_from (first_of (segments ++ t ∷ [])) (segments ++ t ∷ []))
+  begins : first_of (segments ++ t ∷ []) + length earlier ≡ first
+
+next : (segments : List Segment) (earlier records : List Record) (first : ℕ) (t : Segment) → IsTrue (follow_from (first_of segments) segments) → first_of segments + length earlier ≡ first → all_records segments ≡ earlier ++ records
+    → t.first ≡ first + length records → Next segments earlier records first t
+next [] earlier records first t follow begins shown is =
+    let none : length earlier + length records ≡ 0 = omega (arith, ap length shown, length-append earlier records) in
+    record {
+      follow = and_from _ _ (eq-eqb t.first t.first refl) refl;
+      begins = omega (arith, none, is);
+    }
+next (s ∷ segments) earlier records first t follow begins shown is = record {
+  follow = follow_more s.first (s ∷ segments) t follow (omega (arith, is, begins, ap length shown, length-append earlier records));
+  begins = begins;
+}
+
+-- a segment without a chunk above the others
+pub shows_next : {image : Image} {first : ℕ} {records : List Record} → Shows image first records → (n f : ℕ) → f ≡ first + length records → 1 ≤ n → n < 2 ^ 62 → 1 ≤ f → f < 2 ^ 62
+    → (c : Image) → IsTrue (is_sorted nat_cmp c) → c ≡ image ++ (n, empty_segment n f) ∷ [] → Rests c first records (new_segment n f)
+shows_next {image = image} {first = first} {records = records} s n f first_is some below first_some first_below c sorted is =
+    let t = new_segment n f in
+    let at = next s.segments s.earlier records first t s.follow s.begins s.shown first_is in
+    record {
+      rising = sorted;
+      front = image;
+      files = is;
+      made = record {
+        number = refl;
+        gate = 0;
+        rest = [];
+        closed = refl;
+        bytes = refl;
+        chunks = refl;
+        starts = and_from _ _ (and_from _ _ (le-leb 1 n some) (le-leb 1 f first_some)) (lt-ltb f (2 ^ 62) first_below);
+        within = and_from _ _ (le-leb (end_of t) (2 ^ 62) (omega (arith, first_below))) (lt-ltb n (2 ^ 62) below);
+      };
+      older = s.older;
+      looked = s.looked;
+      open_ones = s.files;
+      segments = s.segments;
+      each = s.each;
+      follow = at.follow;
+      earlier = s.earlier;
+      begins = at.begins;
+      shown = all_records_more s.segments t ∙ append-nil (all_records s.segments) ∙ s.shown;
+      whole = s.whole;
+    }
+
+-- ---- what the records of a segment name
+
+-- records behind others may stand there
+allowed_both : (n : ℕ) (rs qs : List Record) → IsTrue (allowed_from n rs) → IsTrue (allowed_from (n + length rs) qs) → IsTrue (allowed_from n (rs ++ qs))
+allowed_both n [] qs all more = subst (λ (k : ℕ). IsTrue (allowed_from k qs)) (omega arith) more
+allowed_both n (r ∷ rs) qs all more =
+    let parts = and_parts (allowed n r) (allowed_from (n + 1) rs) all in
+    let e : n + length (r ∷ rs) ≡ n + 1 + length rs = omega arith in
+    and_from (allowed n r) (allowed_from (n + 1) (rs ++ qs)) parts.0 (allowed_both (n + 1) rs qs parts.1 (subst (λ (k : ℕ). IsTrue (allowed_from k qs)) e more))
+
+chunks_allowed : (n : ℕ) (chunks : List (List Record)) → IsTrue (are_chunks n chunks) → IsTrue (allowed_from n (flat_map (λ (x : List Record). x) chunks))
+chunks_allowed n [] all = refl
+chunks_allowed n (rs ∷ chunks) all =
+    let parts = and_parts (is_chunk n rs) (are_chunks (n + length rs) chunks) all in
+    let here = and_parts (nat_le 1 (length rs) && nat_le (length rs) 256 && nat_le (length (body rs)) (2 ^ 20)) (allowed_from n rs) parts.0 in
+    allowed_both n rs (flat_map (λ (x : List Record). x) chunks) here.1 (chunks_allowed (n + length rs) chunks parts.1)
+
+all_allowed : (n : ℕ) (files : List File) (segments : List Segment) → AllZip IsSegment files segments → IsTrue (follow_from n segments) → IsTrue (allowed_from n (all_records segments))
+all_allowed n [] [] each follow = refl
+all_allowed n [] (s ∷ segments) each follow = absurd each
+all_allowed n (f ∷ files) [] each follow = absurd each
+all_allowed n (f ∷ files) (s ∷ segments) each follow =
+    let parts = and_parts (nat_eq s.first n) (follow_from (end_of s) segments) follow in
+    let is : s.first ≡ n = eqb-true s.first n parts.0 in
+    let here : IsTrue (allowed_from n (records_of s)) = subst (λ (k : ℕ). IsTrue (allowed_from k (records_of s))) is (chunks_allowed s.first s.chunks each.0.chunks) in
+    let more : IsTrue (allowed_from (n + length (records_of s)) (all_records segments)) = subst (λ (k : ℕ). IsTrue (allowed_from k (all_records segments))) (ap (λ (k : ℕ). k + length (records_of s)) is) (all_allowed (end_of s) files segments each.1 parts.1) in
+    allowed_both n (records_of s) (all_records segments) here more
+
+-- a record's lowest is at or below its LSN
+lowest_at : (n : ℕ) (r : Record) → IsTrue (allowed n r) → r.lowest ≤ n
+lowest_at n r is =
+    let kind = kind_allows n r.action r.tx r.named in
+    let a = and_parts (kind && nat_lt r.named n && nat_lt 0 r.lowest && nat_le r.lowest n) (has_words r.action) is in
+    leb-true r.lowest n (and_parts (kind && nat_lt r.named n && nat_lt 0 r.lowest) (nat_le r.lowest n) a.0).1
+
+abbrev lowest_or : Option Record → List Record → ℕ
+lowest_or o rs = unwrap_or (option_map (λ (r : Record). r.lowest) (last_or o rs)) 1
+
+newest_lowest : (n : ℕ) (q : Record) (rs : List Record) → q.lowest < n → IsTrue (allowed_from n rs) → lowest_or (Some q) rs < n + length rs
+newest_lowest n q [] lt all = omega (arith, lt)
+newest_lowest n q (r ∷ rs) lt all =
+    let parts = and_parts (allowed n r) (allowed_from (n + 1) rs) all in
+    omega (arith, newest_lowest (n + 1) r rs (omega (arith, lowest_at n r parts.0)) parts.1)
+
+named_below : (n : ℕ) (rs : List Record) → (rs ≡ [] → ⊥) → IsTrue (allowed_from n rs) → named_lowest rs < n + length rs
+named_below n [] some all = absurd (some refl)
+named_below n (r ∷ rs) some all =
+    let parts = and_parts (allowed n r) (allowed_from (n + 1) rs) all in
+    omega (arith, newest_lowest (n + 1) r rs (omega (arith, lowest_at n r parts.0)) parts.1)
+
+-- the newest record is that of the last records
+last_behind : (o : Option Record) (front : List Record) (r : Record) (rs : List Record) → last_or o (front ++ r ∷ rs) ≡ last_or None (r ∷ rs)
+last_behind o [] r rs = refl
+last_behind o (q ∷ front) r rs = last_behind (Some q) front r rs
+
+lowest_behind : (front rs : List Record) → (rs ≡ [] → ⊥) → named_lowest (front ++ rs) ≡ named_lowest rs
+lowest_behind front [] some = absurd (some refl)
+lowest_behind front (r ∷ rs) some = ap (λ (o : Option Record). unwrap_or (option_map (λ (q : Record). q.lowest) o) 1) (last_behind None front r rs)
+
+-- ---- a log that is spelled is shown
+
+-- what a spelled log's first LSN and its records are to all records of the segments
+record Told (older : Image) (segments : List Segment) (all : List Record) (first : ℕ) (records : List Record) : Type 0 where
+  earlier : List Record
+  begins : first_of segments + length earlier ≡ first
+  shown : all ≡ earlier ++ records
+  whole : records ≡ [] → (older ≡ []) × (earlier ≡ []) × (first ≡ 1)
+  lowest : first ≡ named_lowest records
+
+-- the first of the segments begins at or below the lowest
+reaches_from : (lowest : ℕ) (segments : List Segment) → IsTrue (first_alone_reaches lowest segments) → first_of segments ≤ lowest
+reaches_from lowest [] is = absurd cc
+reaches_from lowest (s ∷ segments) is = leb-true s.first lowest (and_parts (nat_le s.first lowest) (list_all (λ (t : Segment). nat_lt lowest t.first) segments) is).0
+
+reach_of : (older : Image) (segments : List Segment) (rs : List Record) → (rs ≡ [] → ⊥) → IsTrue (are_enough older segments rs) → IsTrue (first_alone_reaches (named_lowest rs) segments)
+reach_of [] segments [] some is = absurd (some refl)
+reach_of (file ∷ older) segments [] some is = absurd (some refl)
+reach_of [] segments (r ∷ rs) some is = is
+reach_of (file ∷ older) segments (r ∷ rs) some is = is
+
+enough_from : (older : Image) (segments : List Segment) (rs : List Record) → (rs ≡ [] → ⊥) → IsTrue (first_alone_reaches (named_lowest rs) segments) → IsTrue (are_enough older segments rs)
+enough_from [] segments [] some is = absurd (some refl)
+enough_from (file ∷ older) segments [] some is = absurd (some refl)
+enough_from [] segments (r ∷ rs) some is = is
+enough_from (file ∷ older) segments (r ∷ rs) some is = is
+
+told_some : (older : Image) (segments : List Segment) (rs : List Record) → (rs ≡ [] → ⊥) → first_of segments ≤ named_lowest rs → named_lowest rs < first_of segments + length rs
+    → Told older segments rs (named_lowest rs) (drop (named_lowest rs - first_of segments) rs)
+told_some older segments rs some le lt =
+    let k = named_lowest rs - first_of segments in
+    let parts : take k rs ++ drop k rs ≡ rs = take-append-drop k rs in
+    let short : length (take k rs) ≡ k = length-take-le k rs (omega (arith, le, lt)) in
+    let left : drop k rs ≡ [] → ⊥ = λ none. omega (arith, le, lt, short, ap length none, ap length parts, length-append (take k rs) (drop k rs)) in
+    record {
+      earlier = take k rs;
+      begins = omega (arith, short, le);
+      shown = sym parts;
+      whole = λ none. absurd (left none);
+      lowest = ap named_lowest (sym parts) ∙ lowest_behind (take k rs) (drop k rs) left;
+    }
+
+none_left : (k : ℕ) (rs : List Record) → rs ≡ [] → drop k rs ≡ []
+none_left k [] is = drop_all k [] (omega arith)
+none_left k (r ∷ rs) is = absurd cc
+
+told : (older : Image) (looked : List File) (segments : List Segment) (rs : List Record) → all_records segments ≡ rs → AllZip IsSegment looked segments → IsTrue (follow_from (first_of segments) segments) → IsTrue (are_enough older segments rs)
+    → Told older segments rs (named_lowest rs) (drop (named_lowest rs - first_of segments) rs)
+told [] looked segments [] is each follow enough =
+    let one : first_of segments ≡ 1 = eqb-true (first_of segments) 1 enough in
+    record {
+      earlier = [];
+      begins = omega (arith, one);
+      shown = sym (none_left (1 - first_of segments) [] refl);
+      whole = λ none. (refl, refl, refl);
+      lowest = sym (ap named_lowest (none_left (1 - first_of segments) [] refl));
+    }
+told (file ∷ older) looked segments [] is each follow enough = absurd cc
+told older looked segments (r ∷ rs) is each follow enough =
+    told_some older segments (r ∷ rs) (λ e. cc)
+    (reaches_from (named_lowest (r ∷ rs)) segments (reach_of older segments (r ∷ rs) (λ e. cc) enough))
+    (named_below (first_of segments) (r ∷ rs) (λ e. cc) (subst (λ (x : List Record). IsTrue (allowed_from (first_of segments) x)) is (all_allowed (first_of segments) looked segments each follow)))
+
+-- an image shows the log that it spells
+pub base_shows : (image : Image) (segments : List Segment) (log : Log) → SpellsBy image segments log → Shows image log.first log.records
+base_shows image segments log p =
+    let t = told p.older p.looked segments (all_records segments) refl p.each p.follow p.enough in
+    subst (λ (l : Log). Shows image l.first l.records) (sym p.shown) (record {
+      rising = p.rising;
+      older = p.older;
+      looked = p.looked;
+      files = p.files;
+      segments = segments;
+      each = p.each;
+      follow = p.follow;
+      earlier = t.earlier;
+      begins = t.begins;
+      shown = t.shown;
+      whole = t.whole;
+    })
+
+-- the first LSN of a spelled log is the lowest that its newest record names
+pub base_lowest : (image : Image) (segments : List Segment) (log : Log) → SpellsBy image segments log → log.first ≡ named_lowest log.records
+base_lowest image segments log p =
+    subst (λ (l : Log). l.first ≡ named_lowest l.records) (sym p.shown) (told p.older p.looked segments (all_records segments) refl p.each p.follow p.enough).lowest
+
+-- ---- a log that is shown is spelled from its lowest on
+
+-- segments in two parts: from the greatest on that begins at or below the lowest, and those before it
+record Split (lowest : ℕ) (segments : List Segment) : Type 0 where
+  before : List Segment
+  behind : List Segment
+  is : segments ≡ before ++ behind
+  reaches : IsTrue (first_alone_reaches lowest behind)
+
+-- behind an LSN above the lowest no segment begins at or below it
+above : (lowest n : ℕ) (segments : List Segment) → IsTrue (follow_from n segments) → lowest < n → IsTrue (list_all (λ (t : Segment). nat_lt lowest t.first) segments)
+above lowest n [] follow lt = refl
+above lowest n (s ∷ segments) follow lt =
+    let parts = and_parts (nat_eq s.first n) (follow_from (end_of s) segments) follow in
+    let is : s.first ≡ n = eqb-true s.first n parts.0 in
+    and_from _ _ (lt-ltb lowest s.first (omega (arith, is, lt))) (above lowest (end_of s) segments parts.1 (omega (arith, is, lt)))
+
+split : (lowest n : ℕ) (s : Segment) (segments : List Segment) → IsTrue (follow_from n (s ∷ segments)) → n ≤ lowest → Split lowest (s ∷ segments)
+split lowest n s [] follow le =
+    let parts = and_parts (nat_eq s.first n) true follow in
+    record { before = []; behind = s ∷ []; is = refl; reaches = and_from _ _ (le-leb s.first lowest (omega (arith, le, eqb-true s.first n parts.0))) refl }
+split lowest n s (t ∷ segments) follow le =
+    let parts = and_parts (nat_eq s.first n) (follow_from (end_of s) (t ∷ segments)) follow in
+    let here : IsTrue (nat_le s.first lowest) = le-leb s.first lowest (omega (arith, le, eqb-true s.first n parts.0)) in
+    elim (cases_lt lowest (end_of s)) [
+      | inl lt ↦ record { before = []; behind = s ∷ t ∷ segments; is = refl; reaches = and_from _ _ here (above lowest (end_of s) (t ∷ segments) parts.1 lt) }
+      | inr more ↦
+          let rest = split lowest (end_of s) t segments parts.1 more in
+          record { before = s ∷ rest.before; behind = rest.behind; is = ap (λ (x : List Segment). s ∷ x) rest.is; reaches = rest.reaches }
+    ]
+
+split_all : (lowest : ℕ) (segments : List Segment) → IsTrue (follow_from (first_of segments) segments) → first_of segments ≤ lowest → (all_records segments ≡ [] → ⊥) → Split lowest segments
+split_all lowest [] follow le some = absurd (some refl)
+split_all lowest (s ∷ segments) follow le some = split lowest s.first s segments follow le
+
+starts_at : (lowest n : ℕ) (segments : List Segment) → IsTrue (first_alone_reaches lowest segments) → IsTrue (follow_from n segments) → first_of segments ≡ n
+starts_at lowest n [] reaches follow = absurd cc
+starts_at lowest n (s ∷ segments) reaches follow = eqb-true s.first n (and_parts (nat_eq s.first n) (follow_from (end_of s) segments) follow).0
+
+-- the files of the second part
+record Apart (looked : List File) (behind : List Segment) : Type 0 where
+  front : List File
+  back : List File
+  is : looked ≡ front ++ back
+  each : AllZip IsSegment back behind
+
+apart : (looked : List File) (before behind : List Segment) → AllZip IsSegment looked (before ++ behind) → Apart looked behind
+apart looked [] behind each = record { front = []; back = looked; is = refl; each = each }
+apart [] (s ∷ before) behind each = absurd each
+apart (f ∷ looked) (s ∷ before) behind each =
+    let rest = apart looked before behind each.1 in
+    record { front = f ∷ rest.front; back = rest.back; is = ap (λ (x : List File). f ∷ x) rest.is; each = rest.each }
+
+same_log : (first other : ℕ) (records others : List Record) → named_lowest records ≡ named_lowest others → drop (named_lowest records - first) records ≡ drop (named_lowest others - other) others → from_lowest first records ≡ from_lowest other others
+same_log first other records others p q i = record { first = p i; records = q i }
+
+module _ (image : Image) (first : ℕ) (records : List Record) (s : Shows image first records) where
+  none_spelled : records ≡ [] → Spells image (from_lowest first records)
+  none_spelled none =
+      let whole = s.whole none in
+      let nothing : all_records s.segments ≡ [] = s.shown ∙ ap (λ (x : List Record). x ++ records) whole.1 ∙ none in
+      let one : first_of s.segments ≡ 1 = omega (arith, s.begins, whole.2, ap length whole.1) in
+      let enough : IsTrue (are_enough s.older s.segments []) = subst (λ (x : Image). IsTrue (are_enough x s.segments [])) (sym whole.0) (eq-eqb (first_of s.segments) 1 one) in (
+        s.segments,
+        record {
+          rising = s.rising;
+          older = s.older;
+          looked = s.looked;
+          files = s.files;
+          each = s.each;
+          follow = s.follow;
+          enough = subst (λ (x : List Record). IsTrue (are_enough s.older s.segments x)) (sym nothing) enough;
+          shown = ap (λ (n : ℕ). from_lowest n records) (whole.2 ∙ sym one) ∙ ap (from_lowest (first_of s.segments)) (none ∙ sym nothing);
+        },
+      )
+
+  module _ (some : records ≡ [] → ⊥) (le : first ≤ named_lowest records) where
+    some_all : all_records s.segments ≡ [] → ⊥
+    some_all none = some (tail s.earlier records (sym s.shown ∙ none))
+      where
+        tail : (rs qs : List Record) → rs ++ qs ≡ [] → qs ≡ []
+        tail [] qs e = e
+        tail (r ∷ rs) qs e = absurd cc
+
+    named : named_lowest (all_records s.segments) ≡ named_lowest records
+    named = ap named_lowest s.shown ∙ lowest_behind s.earlier records some
+
+    parts : Split (named_lowest records) s.segments
+    parts = split_all (named_lowest records) s.segments s.follow (omega (arith, s.begins, le)) some_all
+
+    all_are : all_records s.segments ≡ all_records parts.before ++ all_records parts.behind
+    all_are = ap all_records parts.is ∙ all_records-append parts.before parts.behind
+
+    follow_back : IsTrue (follow_from (first_of s.segments + length (all_records parts.before)) parts.behind)
+    follow_back = follow_behind (first_of s.segments) parts.before parts.behind (subst (λ (x : List Segment). IsTrue (follow_from (first_of s.segments) x)) parts.is s.follow)
+
+    begins_back : first_of parts.behind ≡ first_of s.segments + length (all_records parts.before)
+    begins_back = starts_at (named_lowest records) (first_of s.segments + length (all_records parts.before)) parts.behind parts.reaches follow_back
+
+    low_enough : first_of parts.behind ≤ named_lowest records
+    low_enough = reaches_from (named_lowest records) parts.behind parts.reaches
+
+    -- the newest record stands in the second part
+    some_back : all_records parts.behind ≡ [] → ⊥
+    some_back none =
+        omega (
+          arith,
+          begins_back,
+          low_enough,
+          named,
+          ap length all_are,
+          length-append (all_records parts.before) (all_records parts.behind),
+          ap length none,
+          named_below (first_of s.segments) (all_records s.segments) some_all (all_allowed (first_of s.segments) s.looked s.segments s.each s.follow),
+        )
+
+    named_back : named_lowest records ≡ named_lowest (all_records parts.behind)
+    named_back = sym named ∙ ap named_lowest all_are ∙ lowest_behind (all_records parts.before) (all_records parts.behind) some_back
+
+    same_records : drop (named_lowest records - first) records ≡ drop (named_lowest (all_records parts.behind) - first_of parts.behind) (all_records parts.behind)
+    same_records =
+        let k = named_lowest records - first in
+        let j = named_lowest (all_records parts.behind) - first_of parts.behind in
+        let e : length s.earlier + k ≡ length (all_records parts.before) + j = omega (arith, s.begins, le, begins_back, low_enough, named_back) in
+        sym (drop-append-add s.earlier records k) ∙ ap (drop (length s.earlier + k)) (sym s.shown ∙ all_are)
+        ∙ ap (λ (n : ℕ). drop n (all_records parts.before ++ all_records parts.behind)) e ∙ drop-append-add (all_records parts.before) (all_records parts.behind) j
+
+    files_back : Apart s.looked parts.behind
+    files_back = apart s.looked parts.before parts.behind (subst (λ (x : List Segment). AllZip IsSegment s.looked x) parts.is s.each)
+
+    some_spelled : Spells image (from_lowest first records)
+    some_spelled = (
+      parts.behind,
+      record {
+        rising = s.rising;
+        older = s.older ++ files_back.front;
+        looked = files_back.back;
+        files = append_assoc s.older files_back.front files_back.back ∙ ap (λ (x : Image). s.older ++ x) (sym files_back.is) ∙ s.files;
+        each = files_back.each;
+        follow = subst (λ (n : ℕ). IsTrue (follow_from n parts.behind)) (sym begins_back) follow_back;
+        enough = enough_from (s.older ++ files_back.front) parts.behind (all_records parts.behind) some_back (subst (λ (n : ℕ). IsTrue (first_alone_reaches n parts.behind)) named_back parts.reaches);
+        shown = same_log first (first_of parts.behind) records (all_records parts.behind) named_back same_records;
+      },
+    )
+
+-- the log is spelled from the lowest on that its newest record names, where it is shown from there on
+pub spells : (image : Image) (first : ℕ) (records : List Record) → Shows image first records → ((records ≡ [] → ⊥) → first ≤ named_lowest records) → Spells image (from_lowest first records)
+spells image first [] s le = none_spelled image first [] s refl
+spells image first (r ∷ rs) s le = some_spelled image first (r ∷ rs) s (λ e. cc) (le (λ e. cc))

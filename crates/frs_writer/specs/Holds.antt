@@ -1,0 +1,73 @@
+-- What always holds of a writer: its numbers fit each other, and each image that a crash may leave shows its log as far as
+-- it is durable.
+use Rattle.std.specs.Prelude.{◌≡◌, ℕ, ◌+◌, ◌-◌, ◌^◌, ◌<◌, ◌≤◌, Bool, List, [], ◌∷◌, ◌++◌, length, map, take, None, IsTrue, All}
+use Rattle.std.specs.Option.{option_to_list}
+use Rattle.std.specs.FinMap.{entries, get}
+use Rattle.frs_types.specs.Records.{Log, Placed, next_lsn}
+use Rattle.frs_disk.specs.Disk.{Image as Disk, IsNumber, IsSynced}
+use Rattle.frs_segment.specs.declared.layout.Segment.{Segment as Described}
+use Rattle.frs_segment.specs.Segments.{Image, Segment}
+use Rattle.frs_segment.specs.Scanning.{described}
+use Rattle.frs_slots.specs.Views.{next_taken}
+use Rattle.frs_writer.specs.Appending.{IsAtGate}
+use Rattle.frs_writer.specs.Shown.{Shows, Rests}
+use Rattle.frs_writer.specs.Writer.{WriterView, IsLog, IsWellOpened}
+
+-- ---- numbers
+
+-- the records that were taken are written, but for the one that is kept
+abbrev pub AreWritten : {D : Type 0} → WriterView D → Type 0
+AreWritten w = (written : List (List ℕ)) × (w.taker.taken ≡ written ++ option_to_list w.kept) × (w.taker.first + length written ≡ w.synced + 1)
+
+-- The newest segment is the last one, and the next record to be written follows it. A record that was taken is written,
+-- or kept; a write that was cut short may have lost some.
+pub record IsCounted {D : Type 0} (w : WriterView D) : Type 0 where
+  pub older : List Described
+  pub newest : Described
+  pub segments : w.segments ≡ older ++ newest ∷ []
+  pub number : IsNumber newest.number
+  pub ends : newest.«end» ≡ w.synced + 1
+  pub long : (23 ≤ newest.length) × (newest.length ≤ 2 ^ 22)
+  pub least : 1 ≤ w.taker.first
+  pub first : w.taker.first ≤ w.synced + 1
+  pub most : next_taken w.taker ≤ 2 ^ 62
+  pub written : w.synced + 1 ≤ next_taken w.taker
+  pub counted : w.ended ≡ None → AreWritten w
+  pub clients : (1 ≤ length w.noted) × (length w.noted ≤ 64)
+  pub noted : All (λ n. n ≤ w.synced) w.noted
+
+-- ---- the disk
+
+-- The newest file ends in its closed gate and is durable, and no file stands above it or comes back there.
+pub record IsAtWork {D : Type 0} (reads : D → Disk) (may_leave : D → Disk → Type 0) (removing : D → ℕ → Type 0) (disk : D) (newest : Described) : Type 0 where
+  pub gate : IsAtGate (newest.length - 1) (get (reads disk) newest.number)
+  pub durable : IsSynced reads may_leave disk newest.number
+  pub none_above : (q : ℕ) → newest.number < q → get (reads disk) q ≡ None
+  pub none_removed : (q : ℕ) → newest.number < q → removing disk q → ⊥
+
+-- ---- the log
+
+-- the image shows the log up to a record that isn't before this LSN
+abbrev pub ShowsFrom : ℕ → Log → Image → Type 0
+ShowsFrom synced log image = (n : ℕ) × (synced ≤ n) × (n < next_lsn log) × Shows image log.first (take (n + 1 - log.first) log.records)
+
+-- what of the log is durable
+abbrev pub durable_of : {D : Type 0} → WriterView D → Log → Log
+durable_of w log = record log { records = take (w.synced + 1 - log.first) log.records }
+
+-- Each image that a crash may leave shows what is durable. While nothing was cut short it shows that and nothing more, the
+-- newest file is the same in all of them, and the writer's segments are those that are read.
+pub record Holds {D : Type 0} (reads : D → Disk) (may_leave : D → Disk → Type 0) (w : WriterView D) (log : Log) : Type 0 where
+  pub next_is : next_lsn log ≡ next_taken w.taker
+  pub each : (c : Disk) → may_leave w.disk c → ShowsFrom w.synced log (entries c)
+  pub newest : w.ended ≡ None → (last : Segment)
+      × ((c : Disk) → may_leave w.disk c → Rests (entries c) log.first (durable_of w log).records last)
+      × ((before : List Segment) × (w.segments ≡ map described (before ++ last ∷ [])))
+
+-- ---- all of it
+
+pub record IsKept {D : Type 0} (tells : D → Bool) (reads : D → Disk) (may_leave : D → Disk → Type 0) (removing : D → ℕ → Type 0) (w : WriterView D) : Type 0 where
+  pub counted : IsCounted w
+  pub told : tells w.disk ≡ tells w.opened
+  pub at_work : w.ended ≡ None → IsTrue (tells w.disk) → IsAtWork reads may_leave removing w.disk counted.newest
+  pub holds : IsTrue (tells w.disk) → IsWellOpened reads may_leave w.opened → (log : Log) → IsLog reads w log → Placed log → Holds reads may_leave w log

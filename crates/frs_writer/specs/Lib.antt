@@ -1,0 +1,10 @@
+pub mod Appending
+pub mod Chunk
+pub mod Groups
+pub mod Holds
+pub mod Inside
+pub mod Opening
+pub mod Places
+pub mod Shown
+pub mod Writer
+pub mod Writing

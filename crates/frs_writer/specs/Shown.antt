@@ -1,0 +1,51 @@
+-- What an image shows of a log while the log is written.
+use Rattle.std.specs.Prelude.{◌≡◌, ℕ, ◌+◌, List, [], ◌∷◌, ◌++◌, length, IsTrue}
+use Rattle.std.specs.List.{AllZip}
+use Rattle.std.specs.FinMap.Entries.{is_sorted}
+use Rattle.std.specs.Ordering.{nat_cmp}
+use Rattle.frs_types.specs.declared.record.Record.{Record}
+use Rattle.frs_segment.specs.Segments.{Image, Segment, IsSegment, segment_spelling, open_files, follow_from, first_of, all_records}
+
+-- The newest open files of the image are segments that follow each other, and their records are these from the LSN first
+-- on, behind earlier ones. Without a record no other file is open, and the first record would have the LSN 1.
+pub record Shows (image : Image) (first : ℕ) (records : List Record) : Type 0 where
+  pub rising : IsTrue (is_sorted nat_cmp image)
+  pub older : Image
+  pub looked : Image
+  pub files : older ++ looked ≡ open_files image
+  pub segments : List Segment
+  pub each : AllZip IsSegment looked segments
+  pub follow : IsTrue (follow_from (first_of segments) segments)
+  pub earlier : List Record
+  pub begins : first_of segments + length earlier ≡ first
+  pub shown : all_records segments ≡ earlier ++ records
+  pub whole : records ≡ [] → (older ≡ []) × (earlier ≡ []) × (first ≡ 1)
+
+-- the segment's file, whose last gate is closed and the last of its bytes
+abbrev pub file_of : Segment → ℕ × List ℕ
+file_of s = (s.number, segment_spelling s ++ 0 ∷ [])
+
+-- The same, and the last file is this segment: nothing else stands behind its closed gate or above it.
+pub record Rests (image : Image) (first : ℕ) (records : List Record) (last : Segment) : Type 0 where
+  pub rising : IsTrue (is_sorted nat_cmp image)
+  pub front : Image
+  pub files : image ≡ front ++ file_of last ∷ []
+  pub made : IsSegment (file_of last) last
+  pub older : Image
+  pub looked : Image
+  pub open_ones : older ++ looked ≡ open_files front
+  pub segments : List Segment
+  pub each : AllZip IsSegment looked segments
+  pub follow : IsTrue (follow_from (first_of (segments ++ last ∷ [])) (segments ++ last ∷ []))
+  pub earlier : List Record
+  pub begins : first_of (segments ++ last ∷ []) + length earlier ≡ first
+  pub shown : all_records (segments ++ last ∷ []) ≡ earlier ++ records
+  pub whole : records ≡ [] → (older ≡ []) × (earlier ≡ []) × (first ≡ 1)
+
+-- the segment with one more chunk
+abbrev pub with_chunk : Segment → List Record → Segment
+with_chunk s rs = record s { chunks = s.chunks ++ rs ∷ [] }
+
+-- a segment without a chunk
+abbrev pub new_segment : ℕ → ℕ → Segment
+new_segment number first = record { number = number; first = first; chunks = [] }

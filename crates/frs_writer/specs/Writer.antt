@@ -1,0 +1,36 @@
+-- How the writer of a log is seen, what its log is, and what one call of `write_group` does.
+use Rattle.std.specs.Prelude.{◌≡◌, ℕ, List, ◌++◌, map, Option}
+use Rattle.std.specs.FinMap.{entries}
+use Rattle.frs_types.specs.declared.record.Record.{Record}
+use Rattle.frs_types.specs.Records.{Log}
+use Rattle.frs_disk.specs.declared.disk.Fault.{Fault}
+use Rattle.frs_disk.specs.Disk.{Image}
+use Rattle.frs_frame.specs.Spelling.{spelling}
+use Rattle.frs_segment.specs.declared.layout.Segment.{Segment as Described}
+use Rattle.frs_segment.specs.Segments.{Spells}
+use Rattle.frs_segment.specs.Stores.{SpellsAlike}
+use Rattle.frs_slots.specs.Views.{TakerView}
+
+pub record WriterView (D : Type 0) : Type 0 where
+  pub opened : D  -- the disk as it was at the opening
+  pub disk : D
+  pub taker : TakerView
+  pub kept : Option (List ℕ)  -- the record that was taken last, where it waits for the next chunk
+  pub segments : List Described
+  pub noted : List ℕ  -- for each client the LSN that was noted as durable
+  pub synced : ℕ
+  pub ended : Option Fault  -- what has cut a write short
+
+-- ---- the log
+
+-- What the disk spelled at the opening, and then the records that were taken.
+pub record IsLog {D : Type 0} (reads : D → Image) (w : WriterView D) (log : Log) : Type 0 where
+  pub base : Log
+  pub spelled : Spells (entries (reads w.opened)) base
+  pub taken : List Record
+  pub bytes : w.taker.taken ≡ map spelling taken
+  pub is : log ≡ record base { records = base.records ++ taken }
+
+-- each image that a crash could leave at the opening said what was read
+abbrev pub IsWellOpened : {D : Type 0} → (D → Image) → (D → Image → Type 0) → D → Type 0
+IsWellOpened reads may_leave opened = (c : Image) → may_leave opened c → SpellsAlike (entries (reads opened)) (entries c)

@@ -1,0 +1,15 @@
+//! The writer of the log: it takes the records of the ring in groups, writes each group as a chunk, and knows what is
+//! durable.
+#![tactic(auto)]
+
+mod append;
+mod chunk;
+mod fault;
+mod gather;
+mod newest;
+mod opening;
+mod parts;
+mod writer;
+
+pub use fault::{NotYet, Refused, WriteFault};
+pub use writer::Writer;
