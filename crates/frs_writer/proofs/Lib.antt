@@ -1,4 +1,5 @@
 mod Beginning
+mod Disks
 mod Files
 mod Found
 mod Gates

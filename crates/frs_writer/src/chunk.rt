@@ -68,24 +68,26 @@ impl Chunk {
     {
         self.count = 0;
         self.bytes.clear();
+        // There is room, so it doesn't fail.
         let _ = self.bytes.extend_from_slice(&[0; HEAD]);
     }
 
     /// Whether so many bytes more are not too many.
     pub(crate) fn fits(&self, len: usize) -> bool
-        requires { 16 ≤ length self.now.bytes × length self.now.bytes ≤ 1048592 }
+        requires { (16 ≤ length self.now.bytes) × (length self.now.bytes ≤ 1048592) }
         ensures { IsTrue result ↔ (length self.now.bytes + len ≤ 1048592) }
     {
         len <= HEAD + BODY_LIMIT - self.bytes.len()
     }
 
     /// Adds a record that fits.
-    pub(crate) fn add(&mut self, record: &[u8])
-        requires fits { length self.old.bytes + length record.now ≤ 1048592 }
+    pub(crate) fn add(&mut self, bytes: &[u8])
+        requires fits { length self.old.bytes + length bytes.now ≤ 1048592 }
         requires count { self.old.count < 256 }
-        ensures { self.new ≡ record { count = self.old.count + 1; bytes = self.old.bytes ++ record.now } }
+        ensures { self.new ≡ record { count = self.old.count + 1; bytes = self.old.bytes ++ bytes.now } }
     {
-        let _ = self.bytes.extend_from_slice(record);
+        // There is room, so it doesn't fail.
+        let _ = self.bytes.extend_from_slice(bytes);
         self.count += 1;
     }
 

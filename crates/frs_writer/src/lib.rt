@@ -13,3 +13,6 @@ mod writer;
 
 pub use fault::{NotYet, Refused, WriteFault};
 pub use writer::Writer;
+
+#[cfg(test)]
+mod tests;

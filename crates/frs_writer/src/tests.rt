@@ -1,0 +1,348 @@
+//! Groups that are written to a disk in memory: its calls, the chunks that they make, and what a fault leaves.
+ghost use Rattle.std.specs.Prelude.{◌≡◌, ℕ, [], ◌∷◌, IfOk, IsSome};
+ghost use Rattle.std.specs.FinMap.{entries, get};
+ghost use Rattle.frs_disk.specs.Disk.{IsNumber};
+ghost use Rattle.frs_disk.specs.Plans.{removed_on, files_of};
+ghost use Rattle.frs_segment.specs.Stores.{IsFound};
+
+use super::*;
+use frs_disk::{Call, FaultPlan, Made, MemDisk};
+use frs_frame::{Framed, encode_payload};
+use frs_segment::{ChunkPlace, Found, Numbers, ScanFault, Segments, read_chunk, scan};
+use frs_slots::{Drawer, Taker, ring};
+use frs_types::{Action, Key, MapId, NoMemory, Value, WordFault};
+use std::alloc::Global;
+use std::test::Fail;
+
+// What was asked of the disk: the file, and of a write the offset and how many bytes.
+#[derive(Clone, Copy, Debug, PartialEq, Eq)]
+enum Asked {
+    Create(u64),
+    Write(u64, u64, usize),
+    Sync(u64),
+    Remove(u64),
+    Look,
+}
+
+// The opening makes segment 1; then the two marks are written, and their gate.
+const TWO_MARKS: [Asked; 11] = [
+    Asked::Create(1),
+    Asked::Write(1, 0, 1),
+    Asked::Sync(1),
+    Asked::Write(1, 1, 22),
+    Asked::Sync(1),
+    Asked::Write(1, 0, 1),
+    Asked::Sync(1),
+    Asked::Write(1, 23, 67),
+    Asked::Sync(1),
+    Asked::Write(1, 22, 1),
+    Asked::Sync(1),
+];
+
+// The opening removes file 1 and makes segment 2.
+const BESIDE_HALF: [Asked; 8] = [
+    Asked::Remove(1),
+    Asked::Create(2),
+    Asked::Write(2, 0, 1),
+    Asked::Sync(2),
+    Asked::Write(2, 1, 22),
+    Asked::Sync(2),
+    Asked::Write(2, 0, 1),
+    Asked::Sync(2),
+];
+
+fn asked_by(made: &Made) -> Asked {
+    match &made.call {
+        Call::Create { number } => Asked::Create(*number),
+        Call::Write { number, at, bytes } => Asked::Write(*number, *at, bytes.as_slice().len()),
+        Call::Sync { number } => Asked::Sync(*number),
+        Call::Remove { number } => Asked::Remove(*number),
+        _ => Asked::Look,
+    }
+}
+
+// The calls that were made are these.
+fn are(made: &[Made], calls: &[Asked]) -> bool {
+    made.len() == calls.len()
+        && made
+            .iter()
+            .zip(calls)
+            .all(|(made, call)| asked_by(made) == *call)
+}
+
+// A mark that names 1 as the lowest LSN that is needed.
+fn mark(alloc: Global) -> Result<Framed, NoMemory> {
+    let mut framed = encode_payload(alloc, &Action::Mark)?;
+    framed.patch(0, 1, 0);
+    Ok(framed)
+}
+
+// Draws the next LSN for the record and fills it, where there is room.
+fn draw(drawer: &mut Drawer, framed: Framed) -> bool {
+    if drawer.next() >= 1 << 62 {
+        return false;
+    }
+    match drawer.draw(framed) {
+        Ok(slip) => {
+            slip.fill();
+            true
+        }
+        Err(_) => false,
+    }
+}
+
+fn empty_disk(alloc: Global, failing: Vec<u64>) -> Result<MemDisk, NoMemory>
+    ensures { IfOk result (λ disk. (entries (files_of disk) ≡ []) × ((n : ℕ) → removed_on disk n → ⊥)) }
+{
+    let plan = FaultPlan {
+        failing,
+        stop_after: None,
+    };
+    MemDisk::of(alloc, Vec::new(alloc), plan)
+}
+
+// What there is to find on an empty disk.
+fn nothing(alloc: Global) -> Found
+    ensures { IsFound [] [] (record { first = 1; records = [] }) result }
+{
+    Found {
+        segments: Segments::of(Vec::new(alloc)),
+        half: Numbers::of(Vec::new(alloc)),
+        older: Numbers::of(Vec::new(alloc)),
+        greatest: 0,
+        next: 1,
+        named: 1,
+    }
+}
+
+// A writer for one client on an empty disk, of which these calls fail.
+fn opened(alloc: Global, failing: Vec<u64>, taker: Taker) -> Result<Writer<MemDisk>, WriteFault>
+    requires { (taker.taken ≡ []) × (taker.first ≡ 1) }
+    ensures { IfOk result (λ writer. writer.noted ≡ 0 ∷ []) }
+{
+    let disk = empty_disk(alloc, failing)?;
+    let found = nothing(alloc);
+    match Writer::new(alloc, disk, taker, &found, 1) {
+        Ok(writer) => Ok(writer),
+        Err(refused) => Err(refused.fault),
+    }
+}
+
+// The LSN 2 is durable and can be noted, and 3 isn't.
+fn is_durable_up_to_two(writer: &mut Writer<MemDisk>) -> bool
+    requires { writer.old.noted ≡ 0 ∷ [] }
+{
+    let noted = writer.acknowledge(1, 2).is_ok() && writer.noted(1) == 2;
+    let refused = writer.acknowledge(1, 3) == Err(NotYet { synced: 2 });
+    noted && refused && writer.noted(1) == 2
+}
+
+// The writer has one segment with one chunk: two records of 25 bytes.
+fn has_two_marks(writer: &Writer<MemDisk>) -> bool {
+    let [segment] = writer.segments() else {
+        return false;
+    };
+    let place = ChunkPlace {
+        offset: 22,
+        first: 1,
+        count: 2,
+        body: 50,
+    };
+    let [only] = segment.chunks.places() else {
+        return false;
+    };
+    *only == place && (segment.number, segment.first, segment.end, segment.length) == (1, 1, 3, 90)
+}
+
+#[test]
+fn two_records_are_one_chunk(rt: HostRuntime) -> Result<(), Fail> {
+    let alloc = rt.alloc();
+    let (mut drawer, taker) = ring(alloc, 8, 1)?;
+    assert!(rt; draw(&mut drawer, mark(alloc)?));
+    assert!(rt; draw(&mut drawer, mark(alloc)?));
+    let mut writer = opened(alloc, Vec::new(alloc), taker)?;
+    assert_eq!(rt; writer.write_group(alloc, 256)?, 2);
+    assert_eq!(rt; writer.write_group(alloc, 256)?, 0);
+    assert_eq!(rt; writer.synced(), 2);
+    assert!(rt; is_durable_up_to_two(&mut writer));
+    assert!(rt; has_two_marks(&writer));
+    let disk = writer.into_disk();
+    assert!(rt; are(disk.record(), &TWO_MARKS));
+    Ok(())
+}
+
+#[test]
+fn a_fault_ends_the_writing(rt: HostRuntime) -> Result<(), Fail> {
+    let alloc = rt.alloc();
+    let (mut drawer, taker) = ring(alloc, 8, 1)?;
+    assert!(rt; draw(&mut drawer, mark(alloc)?));
+    // Call 9 is the sync of the chunk's bytes, before its gate is written.
+    let mut failing = Vec::new(alloc);
+    failing.push(9)?;
+    let mut writer = opened(alloc, failing, taker)?;
+    assert_eq!(rt; writer.write_group(alloc, 256), Err(WriteFault::Disk));
+    let broken = WriteFault::Broken {
+        count_at_opening: 0,
+        count_now: 1,
+    };
+    assert_eq!(rt; writer.write_group(alloc, 256), Err(broken));
+    assert_eq!(rt; writer.synced(), 0);
+    assert_eq!(rt; writer.into_disk().record().len(), 9);
+    Ok(())
+}
+
+// A put with a value of 65,535 bytes. Its record has 65,566.
+fn large_put(alloc: Global) -> Result<Framed, WordFault> {
+    let mut bytes = Vec::new(alloc);
+    bytes.resize(65535, 7u8)?;
+    let put = Action::Put {
+        id: MapId::new(alloc, b"m")?,
+        key: Key::new(alloc, b"k")?,
+        value: Value::new(alloc, bytes.as_slice())?,
+    };
+    let Ok(mut framed) = encode_payload(alloc, &put) else {
+        return Err(WordFault::Memory);
+    };
+    framed.patch(0, 1, 0);
+    Ok(framed)
+}
+
+// Draws and fills so many large puts.
+fn draw_puts(alloc: Global, drawer: &mut Drawer, count: u32) -> Result<bool, WordFault> {
+    for _ in 0..count {
+        if !draw(drawer, large_put(alloc)?) {
+            return Ok(false);
+        }
+    }
+    Ok(true)
+}
+
+// A disk with this one file.
+fn disk_with(alloc: Global, number: u64, bytes: Vec<u8>) -> Result<MemDisk, NoMemory>
+    requires { IsNumber number }
+    ensures { IfOk result (λ disk. (entries (files_of disk) ≡ (number, bytes.items) ∷ [])
+        × ((n : ℕ) → removed_on disk n → ⊥) × IsSome (get (files_of disk) number)) }
+{
+    let plan = FaultPlan {
+        failing: Vec::new(alloc),
+        stop_after: None,
+    };
+    let mut files = Vec::new(alloc);
+    files.push((number, bytes))?;
+    MemDisk::of(alloc, files, plan)
+}
+
+// How many records are read where the place stands in a file of these bytes.
+fn count_at(
+    alloc: Global,
+    number: u64,
+    bytes: &[u8],
+    place: &ChunkPlace,
+) -> Result<usize, ScanFault>
+    requires { IsNumber number }
+{
+    let mut disk = disk_with(alloc, number, bytes.to_vec(alloc)?)?;
+    Ok(read_chunk(alloc, &mut disk, number, place)?.len())
+}
+
+// A file of these bytes is read as a segment with this first LSN, this LSN after the last, this length, and chunks of
+// so many records.
+fn is_read_as(
+    alloc: Global,
+    number: u64,
+    bytes: &[u8],
+    numbers: (u64, u64, u64),
+    counts: &[usize],
+) -> Result<bool, ScanFault>
+    requires { IsNumber number }
+{
+    let mut disk = disk_with(alloc, number, bytes.to_vec(alloc)?)?;
+    let segment = scan(alloc, &mut disk, number)?;
+    let mut found = Vec::new(alloc);
+    for place in segment.chunks.places() {
+        found.push(count_at(alloc, number, bytes, place)?)?;
+    }
+    Ok((segment.first, segment.end, segment.length) == numbers && found.as_slice() == counts)
+}
+
+// How many records each of six groups has, of which the fourth has the limit 2.
+fn six_groups(alloc: Global, writer: &mut Writer<MemDisk>) -> Result<[u32; 6], WriteFault> {
+    Ok([
+        writer.write_group(alloc, 256)?,
+        writer.write_group(alloc, 256)?,
+        writer.write_group(alloc, 256)?,
+        writer.write_group(alloc, 2)?,
+        writer.write_group(alloc, 256)?,
+        writer.write_group(alloc, 256)?,
+    ])
+}
+
+// A chunk has room for 15 large puts, and the 16th waits. A segment is left after two such chunks, or after one and two
+// more puts.
+#[test]
+fn a_log_rolls_over_three_segments(rt: HostRuntime) -> Result<(), Fail> {
+    let alloc = rt.alloc();
+    let (mut drawer, taker) = ring(alloc, 64, 1)?;
+    assert!(rt; draw_puts(alloc, &mut drawer, 48)?);
+    let mut writer = opened(alloc, Vec::new(alloc), taker)?;
+    assert_eq!(rt; six_groups(alloc, &mut writer)?, [15, 15, 15, 2, 1, 0]);
+    assert_eq!(rt; writer.synced(), 48);
+    let disk = writer.into_disk();
+    let [one, two, three] = disk.files() else {
+        panic!(rt; "there are three segments")
+    };
+    assert_eq!(rt; (one.0, two.0, three.0), (1, 2, 3));
+    assert!(rt; is_read_as(alloc, 1, &one.1, (1, 31, 1967037), &[15, 15])?);
+    assert!(rt; is_read_as(alloc, 2, &two.1, (31, 48, 1114679), &[15, 2])?);
+    assert!(rt; is_read_as(alloc, 3, &three.1, (48, 49, 65606), &[1])?);
+    Ok(())
+}
+
+// What there is to find where file 1 has the one byte 1.
+fn half_made(alloc: Global) -> Result<Found, NoMemory>
+    ensures { IfOk result (λ found. IsFound ((1, 1 ∷ []) ∷ []) [] (record { first = 1; records = [] }) found) }
+{
+    let mut half = Vec::new(alloc);
+    half.push(1)?;
+    Ok(Found {
+        segments: Segments::of(Vec::new(alloc)),
+        half: Numbers::of(half),
+        older: Numbers::of(Vec::new(alloc)),
+        greatest: 1,
+        next: 1,
+        named: 1,
+    })
+}
+
+// A writer for one client on a disk where file 1 has the one byte 1.
+fn opened_beside_half(alloc: Global, taker: Taker) -> Result<Writer<MemDisk>, WriteFault>
+    requires { (taker.taken ≡ []) × (taker.first ≡ 1) }
+{
+    let mut bytes: Vec<u8> = Vec::new(alloc);
+    if bytes.push(1).is_err() {
+        return Err(WriteFault::Memory);
+    }
+    let disk = disk_with(alloc, 1, bytes)?;
+    let found = half_made(alloc)?;
+    match Writer::new(alloc, disk, taker, &found, 1) {
+        Ok(writer) => Ok(writer),
+        Err(refused) => Err(refused.fault),
+    }
+}
+
+#[test]
+fn half_made_files_are_removed(rt: HostRuntime) -> Result<(), Fail> {
+    let alloc = rt.alloc();
+    let (_, taker) = ring(alloc, 8, 1)?;
+    let writer = opened_beside_half(alloc, taker)?;
+    let [segment] = writer.segments() else {
+        panic!(rt; "there is one segment")
+    };
+    assert_eq!(rt;
+        (segment.number, segment.first, segment.end, segment.length),
+        (2, 1, 1, 23)
+    );
+    let disk = writer.into_disk();
+    assert!(rt; are(disk.record(), &BESIDE_HALF));
+    Ok(())
+}
