@@ -4,3 +4,4 @@ pub mod LogExamples
 mod LogSteps
 mod Notes
 mod Offers
+mod Rising

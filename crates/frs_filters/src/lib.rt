@@ -16,7 +16,7 @@ pub use begins::OpenBegins;
 pub use chain::Chain;
 pub use delete::DeleteFilter;
 pub use filter::Filter;
-pub use law::notes_of_offered;
+pub use law::{notes_of_offered, survivors_in_order};
 pub use log::survivors_of_log;
 pub use replay::ReplayFilter;
 pub use skip::SkipFilter;

@@ -237,7 +237,7 @@ reach_end file first places offset next found r closed is number =
     )
 
 -- or is refused where no chunk stands behind an open gate
-reach_refused : (file : File) (first : ℕ) (places : List ChunkPlace) (offset next : ℕ) (fault : ScanFault) → Reached file first places offset next → get_or file.1 offset 0 ≡ 1 → RefusesChunk offset next (drop (offset + 1) file.1) fault → IsRefused file fault
+pub reach_refused : (file : File) (first : ℕ) (places : List ChunkPlace) (offset next : ℕ) (fault : ScanFault) → Reached file first places offset next → get_or file.1 offset 0 ≡ 1 → RefusesChunk offset next (drop (offset + 1) file.1) fault → IsRefused file fault
 reach_refused file first places offset next fault r is refuses =
     let s = meant file first r.chunks in
     inr (record {

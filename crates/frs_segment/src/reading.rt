@@ -3,7 +3,7 @@ ghost use Rattle.std.specs.Prelude.{◌≡◌, ◌+◌, ◌<◌, ◌≤◌, ◌^
 ghost use Rattle.std.specs.Bool.{OnTrue};
 ghost use Rattle.std.specs.FinMap.{get};
 ghost use Rattle.frs_types.specs.declared.record.Record.{Record as Described};
-ghost use Rattle.frs_disk.specs.Disk.{bytes_at, Keeps, Elapses, HasCause};
+ghost use Rattle.frs_disk.specs.Disk.{bytes_at, IsNumber, Keeps, Elapses, HasCause};
 ghost use Rattle.frs_segment.specs.declared.fault.ScanFault.{ScanFault as Refusal};
 ghost use Rattle.frs_segment.specs.Segments.{Segment as Meant, IsSegment};
 ghost use Rattle.frs_segment.specs.Faults.{HasDiskCause, Gives};
@@ -33,6 +33,9 @@ pub fn scan<D: Disk>(alloc: Global, disk: &mut D, number: u64) -> Result<Segment
     // What is read is the segment that the file is.
     ensures found { IfOk result (λ found. IsTrue (D.tells disk.old)
         → (s : Meant) × IsSegment (number, bytes_at (D.reads disk.old) number) s × (found ≡ described s)) }
+
+    // It is a segment of this number also where the disk doesn't tell the file.
+    ensures meant { IfOk result (λ found. IsNumber number → (bytes : List ℕ) × (s : Meant) × IsSegment (number, bytes) s × (found ≡ described s)) }
 
     // If the file is a segment, that is read, unless the disk or memory fails.
     ensures only { IsTrue (D.tells disk.old) → (s : Meant) → IsSegment (number, bytes_at (D.reads disk.old) number) s
@@ -85,6 +88,9 @@ pub fn read_chunk<D: Disk>(
     // What is read is the chunk that stands there.
     ensures found { IfOk result (λ records. IsTrue (D.tells disk.old)
         → IsChunk place.now (drop place.now.offset (bytes_at (D.reads disk.old) number)) records.items) }
+
+    // The records are such a chunk also where the disk doesn't tell the file.
+    ensures meant { IfOk result (λ records. (text : List ℕ) × IsChunk place.now text records.items) }
 
     // If it stands there, it is read, unless the disk or memory fails.
     ensures only { IsTrue (D.tells disk.old) → (rs : List Described)

@@ -146,6 +146,31 @@ fn damaged_segments(rt: HostRuntime) -> Result<(), Fail> {
     Ok(())
 }
 
+// The text of each fault.
+const TEXTS: [(ScanFault, &str); 6] = [
+    (ScanFault::HalfMade, "the file was never finished"),
+    (
+        ScanFault::BadHeader { offset: 14 },
+        "the header is wrong at offset 14",
+    ),
+    (
+        ScanFault::BadChunk { offset: 64 },
+        "there is no chunk behind the gate at offset 64",
+    ),
+    (ScanFault::NumberLimit { lsn: 7 }, "the LSN 7 is too large"),
+    (ScanFault::Disk, "the disk has failed"),
+    (ScanFault::Memory, "out of memory"),
+];
+
+#[test]
+fn texts_of_faults(rt: HostRuntime) -> Result<(), Fail> {
+    for (fault, text) in &TEXTS {
+        let told = format!(in rt.alloc(); "{fault}")?;
+        assert_eq!(rt; told.as_str(), *text);
+    }
+    Ok(())
+}
+
 #[test]
 fn an_empty_segment(rt: HostRuntime) -> Result<(), Fail> {
     let alloc = rt.alloc();

@@ -19,3 +19,8 @@ returns-clause-only g c told rs is =
     let room : take (18 + place.body) behind ≡ take (18 + c.from.result) behind = ap (λ (n : ℕ). take (18 + n) behind) (sym c.from.ensures) in
     let text : take (18 + place.body) behind ≡ c.as_slice.result.now = room ∙ sym (c.as_slice.ensures.value ∙ c.in_ok-text.ensures.bytes told) in
     chunk_read place c.as_slice.result.now rs c.chunk_in.result c.chunk_in.ensures.found c.chunk_in.ensures.why (subst (λ (x : List ℕ). IsChunk place x rs) text (chunk_shorter place behind rs is))
+
+pub returns-clause-meant : goal.returns-clause-meant
+returns-clause-meant g c =
+    let place = c.args.place.now in
+    if_ok (λ (records : Records). IsChunk place c.as_slice.result.now records.items) (λ (records : Records). (text : List ℕ) × IsChunk place text records.items) c.chunk_in.result (λ records is. (c.as_slice.result.now, is)) c.chunk_in.ensures.found

@@ -1,7 +1,7 @@
 use Rattle.std.proofs.Common.{◌≡◌, ◌∙◌, ℕ, List, subst}
 use Rattle.frs_disk.specs.Disk.{bytes_at}
 use Rattle.frs_segment.specs.Scanning.{TellsFile}
-use Rattle.frs_segment.proofs.Readings.{segment_read, refusal_read, file_cause}
+use Rattle.frs_segment.proofs.Readings.{segment_read, refusal_read, file_cause, meant_read}
 use Rattle.frs_segment.proofs.reading.scan.Goals as goal
 
 pub returns-clause-only : goal.returns-clause-only
@@ -19,3 +19,6 @@ returns-clause-refused g c told fault refused =
 
 pub returns-clause-cause : goal.returns-clause-cause
 returns-clause-cause g c = file_cause (c.args.number, c.as_slice.result.now) (g.D.Disk.faults c.args.disk.now) (g.D.Disk.faults c.read_whole.new.disk) c.segment_in.result c.in_ok-bytes.ensures.cause c.segment_in.ensures
+
+pub returns-clause-meant : goal.returns-clause-meant
+returns-clause-meant g c = meant_read c.args.number c.as_slice.result.now c.segment_in.result c.segment_in.ensures
