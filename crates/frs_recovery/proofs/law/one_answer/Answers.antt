@@ -1,0 +1,8 @@
+use Rattle.frs_recovery.proofs.Firsts.{not_both, one_fault}
+use Rattle.frs_recovery.proofs.law.one_answer.Goals as goal
+
+pub returns-clause-apart : goal.returns-clause-apart
+returns-clause-apart c = not_both c.one_segment.ensures.segment c.one_segment.ensures.refused c.one_segment.ensures.fault
+
+pub returns-clause-one : goal.returns-clause-one
+returns-clause-one c = one_fault c.one_segment.ensures.segment c.one_segment.ensures.refused c.one_segment.ensures.fault

@@ -1,0 +1,91 @@
+// The records of a store, from the newest to the oldest, through the filters.
+ghost use Rattle.std.specs.Prelude.{◌≡◌, ◌+◌, ◌<◌, ◌≤◌, ◌^◌, ◌++◌, ℕ, List, [], ◌∷◌, length, map, IsTrue, IfOk, OnOk};
+ghost use Rattle.frs_types.specs.declared.record.Record.{Record as Said};
+ghost use Rattle.frs_types.specs.Records.{allowed, allowed_from, named_lowest, numbered};
+ghost use Rattle.frs_types.specs.Survivors.{committed_of, survivors_of, open_begins, least};
+ghost use Rattle.frs_recovery.specs.Answers.{lsns_of};
+ghost use Rattle.frs_recovery.specs.Offered.{offered_of, lowest_named, HasRead};
+
+use frs_filters::{Chain, OpenBegins};
+use frs_types::{Entry, NoMemory, Record};
+use std::alloc::Global;
+
+// The newest records of a log, as far back as they were read. The newest one names the lowest LSN that is needed, and
+// those from there on are offered to the filters.
+#[derive(Drop)]
+pub(crate) struct Backward {
+    chain: Chain,
+    begins: OpenBegins,
+    named: Option<u64>,
+}
+
+impl Backward {
+    // No record was read.
+    pub(crate) fn new(alloc: Global) -> Backward
+        ensures { (first : ℕ) → HasRead result first [] }
+    {
+        Backward {
+            chain: Chain::new(alloc),
+            begins: OpenBegins::new(alloc),
+            named: None,
+        }
+    }
+
+    // The lowest LSN that the newest record names, if a record was read.
+    pub(crate) fn named(&self) -> Option<u64>
+        ensures { result ≡ self.now.named }
+    {
+        self.named
+    }
+
+    // Reads the record that stands before all those that were read.
+    fn read(&mut self, lsn: u64, r: Record) -> Result<(), NoMemory>
+        requires { IsTrue (allowed lsn r) }
+        ensures { (rs : List Said) → HasRead self.old (lsn + 1) rs → OnOk result (HasRead self.new lsn (r ∷ rs)) }
+    {
+        let lowest = self.named.unwrap_or(r.lowest);
+        self.named = Some(lowest);
+        if lsn < lowest {
+            return Ok(());
+        }
+        self.begins.note(lsn, &r)?;
+        self.chain.offer(lsn, r)
+    }
+
+    // Reads the records of a chunk, which stand before all those that were read, from the last to the first.
+    pub(crate) fn read_all(&mut self, first: u64, records: Vec<Record>) -> Result<(), NoMemory>
+        requires allowed { IsTrue (allowed_from first records.items) }
+        requires within { first + length records.items ≤ 2 ^ 62 }
+        ensures { (rs : List Said) → HasRead self.old (first + length records.items) rs → OnOk result (HasRead self.new first (records.items ++ rs)) }
+    {
+        let mut older = records;
+        while let Some(r) = older.pop() {
+            self.read(first + older.len() as u64, r)?;
+        }
+        Ok(())
+    }
+
+    // What the records that were read leave, the next of which gets this LSN: the entries, and the lowest LSN that is
+    // still needed.
+    pub(crate) fn left(self, next: u64) -> (Vec<Entry>, u64)
+        ensures entries { (first : ℕ) (rs : List Said) → HasRead self first rs → result.0.items ≡ survivors_of (committed_of (offered_of first rs)) }
+        ensures lowest { (first : ℕ) (rs : List Said) → HasRead self first rs
+            → result.1 ≡ least next (lsns_of (survivors_of (committed_of (offered_of first rs))) ++ open_begins (offered_of first rs)) }
+    {
+        let Backward { chain, begins, .. } = self;
+        let entries = chain.entries();
+        let lowest = begins.lowest(least_lsn(next, entries.as_slice()));
+        (entries, lowest)
+    }
+}
+
+// The least of the entries' LSNs and of the next one.
+fn least_lsn(next: u64, entries: &[Entry]) -> u64
+    ensures { result ≡ least next (lsns_of entries.now) }
+{
+    let mut lowest = next;
+    for entry in entries {
+        lowest = lowest.min(entry.lsn);
+    }
+    lowest
+}
