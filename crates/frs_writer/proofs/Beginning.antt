@@ -5,7 +5,7 @@ use Rattle.std.proofs.lemmas.List.{append-nil, map-append, take_all, length-repl
 use Rattle.std.proofs.lemmas.List.Elements.{All-contains, All-replicate}
 use Rattle.std.specs.FinMap.{entries, get}
 use Rattle.frs_types.specs.declared.record.Record.{Record}
-use Rattle.frs_types.specs.Records.{Log, next_lsn}
+use Rattle.frs_types.specs.Records.{Log, next_lsn, named_lowest}
 use Rattle.frs_disk.specs.declared.disk.Fault.TheVariants.{Failed}
 use Rattle.frs_disk.specs.Disk.{Image, IsSynced, Within, NoneRemovedAbove}
 use Rattle.frs_frame.specs.Spelling.{spelling}
@@ -19,10 +19,11 @@ use Rattle.frs_slots.specs.Views.{TakerView, next_taken}
 use Rattle.frs_writer.specs.Holds.{IsCounted, IsAtWork, Holds, IsKept}
 use Rattle.frs_writer.specs.Opening.{IsOpening}
 use Rattle.frs_writer.specs.Shown.{Shows, Rests, new_segment}
-use Rattle.frs_writer.specs.Writer.{WriterView, IsLog, IsWellOpened}
+use Rattle.frs_writer.specs.Writer.{WriterView, IsLog, WasEmpty, IsWellOpened}
 use Rattle.frs_writer.proofs.Found.{found_above, found_none_removed, found_half, found_next}
 use Rattle.frs_writer.proofs.Opened.{opening_shows, opening_rests, opening_spells}
 use Rattle.frs_writer.proofs.Rolled.{empty_gate}
+use Rattle.frs_writer.proofs.Showing.{base_lowest, shows_as, rests_as}
 
 pub none_failed : None ≡ Some Failed → ⊥
 none_failed is = cc
@@ -34,6 +35,13 @@ left_spells reads may_leave disk well log spelled c left =
     let (segments, by) = spelled in
     let (others, same, rest) = well c left log segments by in
     (others, same)
+
+-- a log without a record begins at 1
+empty_log : (log : Log) → log.first ≡ named_lowest log.records → log.records ≡ [] → log ≡ record { first = 1; records = [] }
+empty_log log lowest none = same (lowest ∙ ap named_lowest none) none
+  where
+    same : log.first ≡ 1 → log.records ≡ [] → ◌≡◌ {A = Log} log (record { first = 1; records = [] })
+    same p q i = record { first = p i; records = q i }
 
 -- no record has no bytes
 none_taken : (bytes : List (List ℕ)) (rs : List Record) → bytes ≡ [] → bytes ≡ map spelling rs → rs ≡ []
@@ -82,6 +90,13 @@ module _ {D : Type 0} (tells : D → Bool) (reads : D → Image) (may_leave : D 
     found_log : (log : Log) → Spells (entries (reads old)) log → log ≡ base
     found_log log spelled = one_log (entries (reads old)) log base spelled (segments, is.spelled)
 
+    -- the log that was found has no record where it was empty at the opening
+    empty_then : base.records ≡ [] → WasEmpty reads old
+    empty_then none = subst (Spells (entries (reads old))) (empty_log base (base_lowest (entries (reads old)) segments base is.spelled) none) (segments, is.spelled)
+
+    none_when : WasEmpty reads old → base.records ≡ []
+    none_when was = ap (λ (l : Log). l.records) (sym (found_log (record { first = 1; records = [] }) was))
+
     opening : (c : Image) → left_since new (moment old) c → IsOpening found.half number first (may_leave old) c
     opening c left = subst (λ (l : List ℕ). IsOpening l number first (may_leave old) c) half_is (images told c left)
 
@@ -89,11 +104,11 @@ module _ {D : Type 0} (tells : D → Bool) (reads : D → Image) (may_leave : D 
       begun_spells : Spells (entries c) base
       begun_spells = opening_spells (reads old) segments base found is (may_leave old) well number first next (omega arith) within low high none_there c (opening c left)
 
-      begun_shows : Shows (entries c) base.first base.records
-      begun_shows = opening_shows (reads old) segments base found is (may_leave old) well number first next (omega arith) within low high none_there c (opening c left)
+      begun_shows : Shows (WasEmpty reads old) (entries c) base.first base.records
+      begun_shows = shows_as empty_then none_when (opening_shows (reads old) segments base found is (may_leave old) well number first next (omega arith) within low high none_there c (opening c left))
 
-      begun_rests : get c number ≡ Some (empty_segment number first) → Rests (entries c) base.first base.records (new_segment number first)
-      begun_rests made = opening_rests (reads old) segments base found is (may_leave old) well number first next (omega arith) within low high none_there c (opening c left) made
+      begun_rests : get c number ≡ Some (empty_segment number first) → Rests (WasEmpty reads old) (entries c) base.first base.records (new_segment number first)
+      begun_rests made = rests_as empty_then none_when (opening_rests (reads old) segments base found is (may_leave old) well number first next (omega arith) within low high none_there c (opening c left) made)
 
   -- each image spells what was read at the start
   pub images_spell : IsTrue (tells old) → IsWellOpened reads may_leave old → (log : Log) → Spells (entries (reads old)) log → Within moment left_since old new (λ c. Spells (entries c) log)
@@ -171,11 +186,11 @@ module _ {D : Type 0} (tells : D → Bool) (reads : D → Image) (may_leave : D 
           first - 1,
           omega arith,
           omega (arith, low, ends_at),
-          subst (Shows (entries c) base.first) (sym all_durable) (begun_shows told segments base is well c (since c left)),
+          subst (Shows (WasEmpty reads old) (entries c) base.first) (sym all_durable) (begun_shows told segments base is well c (since c left)),
         );
         newest = λ fine. (
           new_segment number first,
-          (λ c left. subst (λ (rs : List Record). Rests (entries c) base.first rs (new_segment number first)) (sym all_durable)
+          (λ c left. subst (λ (rs : List Record). Rests (WasEmpty reads old) (entries c) base.first rs (new_segment number first)) (sym all_durable)
               (begun_rests told segments base is well c (since c left) (durable c left ∙ made told))),
           (segments, ap (λ (l : List Described). l ++ next_segment ∷ []) is.segments_are ∙ sym (map-append described segments (new_segment number first ∷ []))),
         );

@@ -14,7 +14,7 @@ use Rattle.frs_writer.specs.Appending.{IsShut, sealed}
 use Rattle.frs_writer.specs.Groups.{joined}
 use Rattle.frs_writer.specs.Holds.{IsCounted, ShowsFrom, durable_of, IsKept}
 use Rattle.frs_writer.specs.Shown.{Shows, Rests, with_chunk}
-use Rattle.frs_writer.specs.Writer.{WriterView, IsLog, IsWellOpened}
+use Rattle.frs_writer.specs.Writer.{WriterView, IsLog, WasEmpty, IsWellOpened}
 use Rattle.frs_writer.specs.Places.{grown, with_newest_grown}
 use Rattle.frs_writer.proofs.Keeping.{Grouping, grouping, placed_before, durable_is, behind_is, grown_is, group_within, group_chunk, group_long, sealed_is, newest_is, front_read, first_is}
 use Rattle.frs_writer.proofs.Logs.{joined_body}
@@ -29,7 +29,7 @@ module _ {D : Type 0} (tells : D → Bool) (reads : D → Image) (may_leave : D 
     pub g : Grouping reads w w' group log'
     pub next : next_lsn g.log ≡ next_taken w.taker
     pub last : Segment
-    pub rest : (c : Image) → may_leave w.disk c → Rests (entries c) log'.first g.front last
+    pub rest : (c : Image) → may_leave w.disk c → Rests (WasEmpty reads w.opened) (entries c) log'.first g.front last
     pub newest : counted.newest ≡ described last
     pub before : List Segment
     pub segments : w.segments ≡ map described (before ++ last ∷ [])
@@ -47,9 +47,9 @@ module _ {D : Type 0} (tells : D → Bool) (reads : D → Image) (may_leave : D 
         next = held.next_is;
         last = last;
         rest = λ c left.
-            let r : Rests (entries c) g.log.first (durable_of w g.log).records last = rest c left in
-            subst (λ (n : ℕ). Rests (entries c) n g.front last) (sym (first_is reads w w' group log' g placed))
-            (subst (λ (l : List Record). Rests (entries c) g.log.first l last) (durable_is reads w w' group log' g placed held.next_is) r);
+            let r : Rests (WasEmpty reads w.opened) (entries c) g.log.first (durable_of w g.log).records last = rest c left in
+            subst (λ (n : ℕ). Rests (WasEmpty reads w.opened) (entries c) n g.front last) (sym (first_is reads w w' group log' g placed))
+            (subst (λ (l : List Record). Rests (WasEmpty reads w.opened) (entries c) g.log.first l last) (durable_is reads w w' group log' g placed held.next_is) r);
         newest = newest_is w kept.counted before last segments;
         before = before;
         segments = segments;
@@ -57,21 +57,21 @@ module _ {D : Type 0} (tells : D → Bool) (reads : D → Image) (may_leave : D 
 
   module _ (w w' : WriterView D) (counted : IsCounted w) (group : List (List ℕ)) (log' : Log) (placed : Placed log') (b : Behind w w' counted group log') where
     -- an image that shows what was durable
-    pub shows_durable : (c : Image) → Shows (entries c) log'.first b.g.front → ShowsFrom w.synced log' (entries c)
+    pub shows_durable : (c : Image) → Shows (WasEmpty reads w.opened) (entries c) log'.first b.g.front → ShowsFrom (WasEmpty reads w.opened) w.synced log' (entries c)
     shows_durable c shows = (
       w.synced,
       omega arith,
       omega (arith, group_within reads w w' group log' b.g placed b.next),
-      subst (λ (l : List Record). Shows (entries c) log'.first l) (sym (behind_is reads w w' group log' b.g placed b.next)) shows,
+      subst (λ (l : List Record). Shows (WasEmpty reads w.opened) (entries c) log'.first l) (sym (behind_is reads w w' group log' b.g placed b.next)) shows,
     )
 
     -- and one that shows the group too
-    pub shows_grown : (c : Image) → Shows (entries c) log'.first (b.g.front ++ b.g.rs) → ShowsFrom (w.synced + length group) log' (entries c)
+    pub shows_grown : (c : Image) → Shows (WasEmpty reads w.opened) (entries c) log'.first (b.g.front ++ b.g.rs) → ShowsFrom (WasEmpty reads w.opened) (w.synced + length group) log' (entries c)
     shows_grown c shows = (
       w.synced + length group,
       omega arith,
       group_within reads w w' group log' b.g placed b.next,
-      subst (λ (l : List Record). Shows (entries c) log'.first l) (sym (grown_is reads w w' group log' b.g placed b.next)) shows,
+      subst (λ (l : List Record). Shows (WasEmpty reads w.opened) (entries c) log'.first l) (sym (grown_is reads w w' group log' b.g placed b.next)) shows,
     )
 
     pub number_is : counted.newest.number ≡ b.last.number
@@ -93,7 +93,7 @@ module _ {D : Type 0} (tells : D → Bool) (reads : D → Image) (may_leave : D 
       -- the file with the whole chunk
       pub whole_rests : (c : Image) → AgreesElsewhere b.last.number (may_leave w.disk) c
           → get c b.last.number ≡ Some (segment_spelling b.last ++ 1 ∷ sealed (w.synced + 1) (length group) (joined group))
-          → Rests (entries c) log'.first (b.g.front ++ b.g.rs) (with_chunk b.last b.g.rs)
+          → Rests (WasEmpty reads w.opened) (entries c) log'.first (b.g.front ++ b.g.rs) (with_chunk b.last b.g.rs)
       whole_rests c agrees file =
           let (e, was, same) = agrees in
           let chunk = group_chunk reads w w' group log' b.g placed b.next some few fits in
@@ -106,7 +106,7 @@ module _ {D : Type 0} (tells : D → Bool) (reads : D → Image) (may_leave : D 
       pub group_images : IsTrue (tells w.disk) → (d : D) → Within moment left_since w.disk d (AgreesElsewhere counted.newest.number (may_leave w.disk))
           → Within moment left_since w.disk d (λ c. IsShut (take (counted.newest.length - 1) (bytes_at (reads w.disk) counted.newest.number)) (get c counted.newest.number)
           ⊎ (get c counted.newest.number ≡ Some (take (counted.newest.length - 1) (bytes_at (reads w.disk) counted.newest.number) ++ 1 ∷ sealed (w.synced + 1) (length group) (joined group))))
-          → Within moment left_since w.disk d (λ c. ShowsFrom w.synced log' (entries c))
+          → Within moment left_since w.disk d (λ c. ShowsFrom (WasEmpty reads w.opened) w.synced log' (entries c))
       group_images told d elsewhere images c left =
           let agrees : AgreesElsewhere b.last.number (may_leave w.disk) c = subst (λ (n : ℕ). AgreesElsewhere n (may_leave w.disk) c) number_is (elsewhere c left) in
           ⊎_elim
@@ -126,7 +126,7 @@ module _ {D : Type 0} (tells : D → Bool) (reads : D → Image) (may_leave : D 
       pub group_rests : IsTrue (tells w.disk) → (d : D) → ((c : Image) → may_leave d c → left_since d (moment w.disk) c)
           → Within moment left_since w.disk d (AgreesElsewhere counted.newest.number (may_leave w.disk)) → IsSynced reads may_leave d counted.newest.number
           → get (reads d) counted.newest.number ≡ Some (take (counted.newest.length - 1) (bytes_at (reads w.disk) counted.newest.number) ++ 1 ∷ sealed (w.synced + 1) (length group) (joined group))
-          → (c : Image) → may_leave d c → Rests (entries c) log'.first (b.g.front ++ b.g.rs) (with_chunk b.last b.g.rs)
+          → (c : Image) → may_leave d c → Rests (WasEmpty reads w.opened) (entries c) log'.first (b.g.front ++ b.g.rs) (with_chunk b.last b.g.rs)
       group_rests told d counts elsewhere durable written c left =
           let agrees : AgreesElsewhere b.last.number (may_leave w.disk) c = subst (λ (n : ℕ). AgreesElsewhere n (may_leave w.disk) c) number_is (elsewhere c (counts c left)) in
           let whole : get c counted.newest.number ≡ Some (take (counted.newest.length - 1) (bytes_at (reads w.disk) counted.newest.number) ++ 1 ∷ sealed (w.synced + 1) (length group) (joined group)) = durable c left ∙ written in

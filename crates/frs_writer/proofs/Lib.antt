@@ -18,4 +18,5 @@ mod Showing
 mod Spelled
 mod Steps
 mod Thinning
+mod Whole
 mod Written

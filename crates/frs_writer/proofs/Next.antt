@@ -15,7 +15,7 @@ use Rattle.frs_slots.specs.Views.{TakerView}
 use Rattle.frs_writer.specs.Groups.{Gathers}
 use Rattle.frs_writer.specs.Holds.{ShowsFrom, IsKept}
 use Rattle.frs_writer.specs.Shown.{Shows}
-use Rattle.frs_writer.specs.Writer.{WriterView, IsLog, IsWellOpened}
+use Rattle.frs_writer.specs.Writer.{WriterView, IsLog, WasEmpty, IsWellOpened}
 use Rattle.frs_writer.proofs.Keeping.{Grouping, grouping, placed_before}
 use Rattle.frs_writer.proofs.Logs.{with_more}
 use Rattle.frs_writer.proofs.Rolled.{rolled_view, rolled_images}
@@ -23,12 +23,12 @@ use Rattle.frs_writer.proofs.Segments.{same_newest}
 use Rattle.frs_writer.proofs.Written.{IsPut, put_images}
 
 -- what an image shows of a log it shows of one with more records
-shows_more : (synced : ℕ) (log log' : Log) (more : List Record) (image : _) → log' ≡ with_more log more → ShowsFrom synced log image → ShowsFrom synced log' image
-shows_more synced log log' more image is (n, least, most, shows) = subst (λ (l : Log). ShowsFrom synced l image) (sym is) (
+shows_more : {alone : Type 0} (synced : ℕ) (log log' : Log) (more : List Record) (image : _) → log' ≡ with_more log more → ShowsFrom alone synced log image → ShowsFrom alone synced log' image
+shows_more {alone = alone} synced log log' more image is (n, least, most, shows) = subst (λ (l : Log). ShowsFrom alone synced l image) (sym is) (
   n,
   least,
   omega (arith, most, length-append log.records more),
-  subst (λ (l : List Record). Shows image log.first l) (sym (take-append-le (n + 1 - log.first) log.records more (omega (arith, most)))) shows,
+  subst (λ (l : List Record). Shows alone image log.first l) (sym (take-append-le (n + 1 - log.first) log.records more (omega (arith, most)))) shows,
 )
 
 -- the newest segment of the rolled view
@@ -64,14 +64,14 @@ module _ {D : Type 0} (tells : D → Bool) (reads : D → Image) (may_leave : D 
       (short : 1 ≤ length group → kept1.counted.newest.length < 2 ^ 20)
       (put_passes : Passes moment left_since mid d) where
     pub next_images : (w' : WriterView D) → w'.opened ≡ w.opened → w'.taker ≡ t → IsTrue (tells w.disk) → IsWellOpened reads may_leave w.opened → (log' : Log) → IsLog reads w' log' → Placed log'
-        → Within moment left_since w.disk d (λ c. ShowsFrom w.synced log' (entries c))
+        → Within moment left_since w.disk d (λ c. ShowsFrom (WasEmpty reads w.opened) w.synced log' (entries c))
     next_images w' same taker told well log' is_log placed =
         let told_mid : IsTrue (tells mid) = subst IsTrue (sym told_same) told in
         let group_is : Grouping reads view w' group log' = grouping reads view w' group g.taken still log' (kept.counted.counted fine) same (ap (λ (v : TakerView). v.taken) taker ∙ g.taken_are) g.group_is is_log in
         let l : IsLog reads w group_is.log = record { base = group_is.is_log.base; spelled = group_is.is_log.spelled; taken = group_is.is_log.taken; bytes = group_is.is_log.bytes; is = group_is.is_log.is } in
-        let first : Within moment left_since w.disk mid (λ c. ShowsFrom w.synced log' (entries c)) = λ c left.
+        let first : Within moment left_since w.disk mid (λ c. ShowsFrom (WasEmpty reads w.opened) w.synced log' (entries c)) = λ c left.
         shows_more w.synced group_is.log log' group_is.more (entries c) group_is.log_is
         (rolled_images tells reads may_leave removing moment left_since counts_now stays_absent w kept fine mid time.later told_same high below elsewhere making told well group_is.log l (placed_before reads view w' group log' group_is placed) c left) in
-        let second : Within moment left_since mid d (λ c. ShowsFrom w.synced log' (entries c)) =
+        let second : Within moment left_since mid d (λ c. ShowsFrom (WasEmpty reads w.opened) w.synced log' (entries c)) =
         put_images tells reads may_leave removing moment left_since as_read counts_now only_now view kept1 refl limit few t still group g d after result put short w' same taker told_mid well log' is_log placed in
-        within_join moment left_since w.disk mid d (λ c. ShowsFrom w.synced log' (entries c)) time put_passes first second
+        within_join moment left_since w.disk mid d (λ c. ShowsFrom (WasEmpty reads w.opened) w.synced log' (entries c)) time put_passes first second

@@ -72,9 +72,9 @@ fewer p (f ∷ files) (s ∷ segments) each bare = by (fewer p files segments ea
     by rest false = rest
 
 -- without a record, some of the open files show as much
-bare_shows : (old new : Files) (p : File → Bool) (first : ℕ) (records : List Record) → Shows old first records → records ≡ [] → open_files new ≡ filter p (open_files old) → IsTrue (is_sorted nat_cmp new) → Shows new first records
+bare_shows : {alone : Type 0} (old new : Files) (p : File → Bool) (first : ℕ) (records : List Record) → Shows alone old first records → records ≡ [] → open_files new ≡ filter p (open_files old) → IsTrue (is_sorted nat_cmp new) → Shows alone new first records
 bare_shows old new p first records s none is sorted =
-    let whole = s.whole none in
+    let whole = s.alone_is (s.whole none) in
     let one : first_of s.segments ≡ 1 = omega (arith, s.begins, whole.2, ap length whole.1) in
     let nothing : all_records s.segments ≡ [] = s.shown ∙ ap (λ (x : List Record). x ++ records) whole.1 ∙ none in
     let looked : s.looked ≡ open_files old = sym (ap (λ (x : Files). x ++ s.looked) whole.0) ∙ s.files in
@@ -91,7 +91,8 @@ bare_shows old new p first records s none is sorted =
       earlier = [];
       begins = omega (arith, start, whole.2);
       shown = bare_records few.segments few.bare ∙ sym none;
-      whole = λ same. (refl, refl, whole.2);
+      alone_is = λ is. (refl, refl, whole.2);
+      whole = λ same. s.whole none;
     }
 
 -- the same open files spell the same
@@ -223,17 +224,17 @@ module _ (a d e : Image) (segments : List Segment) (log : Log) (found : Found) (
         one : (f : File) → (Contains found.half f.0 → ⊥) → IsSome (find nat_cmp f.0 (entries d)) → still f ≡ true
         one f other there = ⊎_elim (λ was. ap is_some (was ∙ get-entries d f.0) ∙ there) (λ gone. absurd (other gone.0)) (thin f.0)
 
-    some_shows : Shows (entries e) log.first log.records
+    some_shows : Shows (log.records ≡ []) (entries e) log.first log.records
     some_shows = base_shows (entries e) others log (spelled_alike (entries d) (entries e) others log by open_stay (rising e))
 
   -- once some of the half-made files are gone
-  pub thin_shows : SpellsAlike (entries a) (entries d) → Shows (entries e) log.first log.records
+  pub thin_shows : SpellsAlike (entries a) (entries d) → Shows (log.records ≡ []) (entries e) log.first log.records
   thin_shows alike = at log.records refl (alike log segments is.spelled)
     where
       some_not : (r : Record) (rs : List Record) → r ∷ rs ≡ [] → ⊥
       some_not r rs none = cc
 
-      at : (records : List Record) → log.records ≡ records → ((others : List Segment) × SpellsBy (entries d) others log × ((log.records ≡ []) ⊎ (places others ≡ places segments))) → Shows (entries e) log.first log.records
+      at : (records : List Record) → log.records ≡ records → ((others : List Segment) × SpellsBy (entries d) others log × ((log.records ≡ []) ⊎ (places others ≡ places segments))) → Shows (log.records ≡ []) (entries e) log.first log.records
       at [] none told = bare_shows (entries d) (entries e) still log.first log.records (base_shows (entries d) told.0 log told.1) none stay_open (rising e)
       at (r ∷ rs) some told = ⊎_elim (λ none. absurd (some_not r rs (sym some ∙ none))) (λ same. some_shows told.0 told.1 same (λ none. some_not r rs (sym some ∙ none))) told.2
 
@@ -253,16 +254,16 @@ module _ (a : Image) (segments : List Segment) (log : Log) (found : Found) (is :
   next_first : first ≡ log.first + length log.records
   next_first = next ∙ is.next_is
 
-  base : Shows (entries opening.thinned) log.first log.records
+  base : Shows (log.records ≡ []) (entries opening.thinned) log.first log.records
   base = thin_shows a opening.base opening.thinned segments log found is opening.by (alike opening.base opening.was)
 
   none_thinned : (q : ℕ) → number ≤ q → get opening.thinned q ≡ None
   none_thinned q le = thin_absent found.half opening.base opening.thinned opening.by q (none opening.base opening.was q le)
 
-  pub opening_shows : Shows (entries c) log.first log.records
+  pub opening_shows : Shows (log.records ≡ []) (entries c) log.first log.records
   opening_shows = one_making log.first log.records number first opening.thinned c base opening.elsewhere none_thinned next_first low high least_first most opening.making
 
-  pub opening_rests : get c number ≡ Some (empty_segment number first) → Rests (entries c) log.first log.records (new_segment number first)
+  pub opening_rests : get c number ≡ Some (empty_segment number first) → Rests (log.records ≡ []) (entries c) log.first log.records (new_segment number first)
   opening_rests made = one_next log.first log.records number first opening.thinned c base opening.elsewhere none_thinned next_first low high least_first most made
 
   pub opening_spells : Spells (entries c) log

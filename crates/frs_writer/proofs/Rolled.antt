@@ -16,7 +16,7 @@ use Rattle.frs_slots.specs.Views.{TakerView}
 use Rattle.frs_writer.specs.Appending.{IsAtGate}
 use Rattle.frs_writer.specs.Holds.{IsCounted, ShowsFrom, durable_of, Holds, IsKept}
 use Rattle.frs_writer.specs.Shown.{Rests, new_segment}
-use Rattle.frs_writer.specs.Writer.{WriterView, IsLog, IsWellOpened}
+use Rattle.frs_writer.specs.Writer.{WriterView, IsLog, WasEmpty, IsWellOpened}
 use Rattle.frs_writer.proofs.Keeping.{newest_is}
 use Rattle.frs_writer.proofs.Showing.{rests_shows, rests_end}
 use Rattle.frs_writer.proofs.Steps.{one_next, one_making}
@@ -76,10 +76,10 @@ module _ {D : Type 0} (tells : D → Bool) (reads : D → Image) (may_leave : D 
       held : Holds reads may_leave w log
       held = kept.holds told well log is_log placed
 
-      ends_at : (last : Segment) (c : Image) → Rests (entries c) log.first (durable_of w log).records last → (before : List Segment) → w.segments ≡ map described (before ++ last ∷ []) → w.synced + 1 ≡ log.first + length (durable_of w log).records
+      ends_at : (last : Segment) (c : Image) → Rests (WasEmpty reads w.opened) (entries c) log.first (durable_of w log).records last → (before : List Segment) → w.segments ≡ map described (before ++ last ∷ []) → w.synced + 1 ≡ log.first + length (durable_of w log).records
       ends_at last c rests before segments = sym kept.counted.ends ∙ ap (λ (s : Described). s.«end») (newest_is w kept.counted before last segments) ∙ rests_end rests
 
-      pub rolled_images : Within moment left_since w.disk d (λ c. ShowsFrom w.synced log (entries c))
+      pub rolled_images : Within moment left_since w.disk d (λ c. ShowsFrom (WasEmpty reads w.opened) w.synced log (entries c))
       rolled_images c left =
           let (e, was, same) = elsewhere c left in
           let (last, rest, (before, segments)) = held.newest fine in (
@@ -91,7 +91,7 @@ module _ {D : Type 0} (tells : D → Bool) (reads : D → Image) (may_leave : D 
           )
 
       rolled_rests : IsSynced reads may_leave d next_number → get (reads d) next_number ≡ Some (empty_segment next_number (w.synced + 1))
-          → (c : Image) → may_leave d c → Rests (entries c) log.first (durable_of w log).records (new_segment next_number (w.synced + 1))
+          → (c : Image) → may_leave d c → Rests (WasEmpty reads w.opened) (entries c) log.first (durable_of w log).records (new_segment next_number (w.synced + 1))
       rolled_rests durable made c left =
           let (e, was, same) = elsewhere c (counts_now d (moment w.disk) c later left) in
           let (last, rest, (before, segments)) = held.newest fine in

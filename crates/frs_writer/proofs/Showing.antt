@@ -113,8 +113,8 @@ some_record n rs is =
 -- ---- the newest file, and what is written to it
 
 -- whatever stands behind the last file's closed gate
-pub rests_shut : {image : Image} {first : ℕ} {records : List Record} {last : Segment} → (r : Rests image first records last) → (c : Image) (gate : ℕ) (rest : List ℕ) → gate ≢ 1 → IsTrue (is_sorted nat_cmp c)
-    → c ≡ r.front ++ (last.number, segment_spelling last ++ gate ∷ rest) ∷ [] → Shows c first records
+pub rests_shut : {alone : Type 0} {image : Image} {first : ℕ} {records : List Record} {last : Segment} → (r : Rests alone image first records last) → (c : Image) (gate : ℕ) (rest : List ℕ) → gate ≢ 1 → IsTrue (is_sorted nat_cmp c)
+    → c ≡ r.front ++ (last.number, segment_spelling last ++ gate ∷ rest) ∷ [] → Shows alone c first records
 rests_shut {last = last} r c gate rest other sorted is =
     let file : File = (last.number, segment_spelling last ++ gate ∷ rest) in
     record {
@@ -128,6 +128,7 @@ rests_shut {last = last} r c gate rest other sorted is =
       earlier = r.earlier;
       begins = r.begins;
       shown = r.shown;
+      alone_is = r.alone_is;
       whole = r.whole;
     }
   where
@@ -144,11 +145,11 @@ rests_shut {last = last} r c gate rest other sorted is =
     }
 
 -- as it stands
-pub rests_shows : {image : Image} {first : ℕ} {records : List Record} {last : Segment} → Rests image first records last → Shows image first records
+pub rests_shows : {alone : Type 0} {image : Image} {first : ℕ} {records : List Record} {last : Segment} → Rests alone image first records last → Shows alone image first records
 rests_shows {image = image} r = rests_shut r image 0 [] (omega arith) r.rising r.files
 
 -- the last file ends at the next LSN
-pub rests_end : {image : Image} {first : ℕ} {records : List Record} {last : Segment} → Rests image first records last → end_of last ≡ first + length records
+pub rests_end : {alone : Type 0} {image : Image} {first : ℕ} {records : List Record} {last : Segment} → Rests alone image first records last → end_of last ≡ first + length records
 rests_end {records = records} {last = last} r =
     let start = first_of (r.segments ++ last ∷ []) in
     let here = and_parts (nat_eq last.first (start + length (all_records r.segments))) true (follow_behind start r.segments (last ∷ []) r.follow) in
@@ -162,8 +163,8 @@ rests_end {records = records} {last = last} r =
     )
 
 -- the last file has one more chunk
-pub rests_chunk : {image : Image} {first : ℕ} {records : List Record} {last : Segment} → (r : Rests image first records last) → (rs : List Record) → IsTrue (is_chunk (end_of last) rs) → end_of last + length rs ≤ 2 ^ 62
-    → (c : Image) → IsTrue (is_sorted nat_cmp c) → c ≡ r.front ++ file_of (with_chunk last rs) ∷ [] → Rests c first (records ++ rs) (with_chunk last rs)
+pub rests_chunk : {alone : Type 0} {image : Image} {first : ℕ} {records : List Record} {last : Segment} → (r : Rests alone image first records last) → (rs : List Record) → IsTrue (is_chunk (end_of last) rs) → end_of last + length rs ≤ 2 ^ 62
+    → (c : Image) → IsTrue (is_sorted nat_cmp c) → c ≡ r.front ++ file_of (with_chunk last rs) ∷ [] → Rests alone c first (records ++ rs) (with_chunk last rs)
 rests_chunk {records = records} {last = last} r rs chunk within c sorted is = record {
   rising = sorted;
   front = r.front;
@@ -190,13 +191,50 @@ rests_chunk {records = records} {last = last} r rs chunk within c sorted is = re
       all_records_more r.segments (with_chunk last rs) ∙ ap (λ (x : List Record). all_records r.segments ++ x) (records_more last rs)
       ∙ sym (append_assoc (all_records r.segments) (records_of last) rs) ∙ ap (λ (x : List Record). x ++ rs) (sym (all_records_more r.segments last) ∙ r.shown)
       ∙ append_assoc r.earlier records rs;
+  alone_is = r.alone_is;
   whole = λ none. absurd (omega (arith, some_record (end_of last) rs chunk, ap length none, length-append records rs));
+}
+
+-- a log stands alone under one condition where it does under another
+pub shows_as : {alone other : Type 0} {image : Image} {first : ℕ} {records : List Record} → (alone → other) → (other → alone) → Shows alone image first records → Shows other image first records
+shows_as then when s = record {
+  rising = s.rising;
+  older = s.older;
+  looked = s.looked;
+  files = s.files;
+  segments = s.segments;
+  each = s.each;
+  follow = s.follow;
+  earlier = s.earlier;
+  begins = s.begins;
+  shown = s.shown;
+  alone_is = λ is. s.alone_is (when is);
+  whole = λ none. then (s.whole none);
+}
+
+pub rests_as : {alone other : Type 0} {image : Image} {first : ℕ} {records : List Record} {last : Segment} → (alone → other) → (other → alone) → Rests alone image first records last → Rests other image first records last
+rests_as then when r = record {
+  rising = r.rising;
+  front = r.front;
+  files = r.files;
+  made = r.made;
+  older = r.older;
+  looked = r.looked;
+  open_ones = r.open_ones;
+  segments = r.segments;
+  each = r.each;
+  follow = r.follow;
+  earlier = r.earlier;
+  begins = r.begins;
+  shown = r.shown;
+  alone_is = λ is. r.alone_is (when is);
+  whole = λ none. then (r.whole none);
 }
 
 -- ---- one more file
 
 -- a half-made file above the others
-pub shows_half : {image : Image} {first : ℕ} {records : List Record} → Shows image first records → (n : ℕ) (b : List ℕ) → IsHalfMade b → (c : Image) → IsTrue (is_sorted nat_cmp c) → c ≡ image ++ (n, b) ∷ [] → Shows c first records
+pub shows_half : {alone : Type 0} {image : Image} {first : ℕ} {records : List Record} → Shows alone image first records → (n : ℕ) (b : List ℕ) → IsHalfMade b → (c : Image) → IsTrue (is_sorted nat_cmp c) → c ≡ image ++ (n, b) ∷ [] → Shows alone c first records
 shows_half {image = image} s n b half c sorted is = record {
   rising = sorted;
   older = s.older;
@@ -208,6 +246,7 @@ shows_half {image = image} s n b half c sorted is = record {
   earlier = s.earlier;
   begins = s.begins;
   shown = s.shown;
+  alone_is = s.alone_is;
   whole = s.whole;
 }
 
@@ -230,8 +269,8 @@ next (s ∷ segments) earlier records first t follow begins shown is = record {
 }
 
 -- a segment without a chunk above the others
-pub shows_next : {image : Image} {first : ℕ} {records : List Record} → Shows image first records → (n f : ℕ) → f ≡ first + length records → 1 ≤ n → n < 2 ^ 62 → 1 ≤ f → f < 2 ^ 62
-    → (c : Image) → IsTrue (is_sorted nat_cmp c) → c ≡ image ++ (n, empty_segment n f) ∷ [] → Rests c first records (new_segment n f)
+pub shows_next : {alone : Type 0} {image : Image} {first : ℕ} {records : List Record} → Shows alone image first records → (n f : ℕ) → f ≡ first + length records → 1 ≤ n → n < 2 ^ 62 → 1 ≤ f → f < 2 ^ 62
+    → (c : Image) → IsTrue (is_sorted nat_cmp c) → c ≡ image ++ (n, empty_segment n f) ∷ [] → Rests alone c first records (new_segment n f)
 shows_next {image = image} {first = first} {records = records} s n f first_is some below first_some first_below c sorted is =
     let t = new_segment n f in
     let at = next s.segments s.earlier records first t s.follow s.begins s.shown first_is in
@@ -258,6 +297,7 @@ shows_next {image = image} {first = first} {records = records} s n f first_is so
       earlier = s.earlier;
       begins = at.begins;
       shown = all_records_more s.segments t ∙ append-nil (all_records s.segments) ∙ s.shown;
+      alone_is = s.alone_is;
       whole = s.whole;
     }
 
@@ -384,10 +424,10 @@ told older looked segments (r ∷ rs) is each follow enough =
     (named_below (first_of segments) (r ∷ rs) (λ e. cc) (subst (λ (x : List Record). IsTrue (allowed_from (first_of segments) x)) is (all_allowed (first_of segments) looked segments each follow)))
 
 -- an image shows the log that it spells
-pub base_shows : (image : Image) (segments : List Segment) (log : Log) → SpellsBy image segments log → Shows image log.first log.records
+pub base_shows : (image : Image) (segments : List Segment) (log : Log) → SpellsBy image segments log → Shows (log.records ≡ []) image log.first log.records
 base_shows image segments log p =
     let t = told p.older p.looked segments (all_records segments) refl p.each p.follow p.enough in
-    subst (λ (l : Log). Shows image l.first l.records) (sym p.shown) (record {
+    subst (λ (l : Log). Shows (l.records ≡ []) image l.first l.records) (sym p.shown) (record {
       rising = p.rising;
       older = p.older;
       looked = p.looked;
@@ -398,7 +438,8 @@ base_shows image segments log p =
       earlier = t.earlier;
       begins = t.begins;
       shown = t.shown;
-      whole = t.whole;
+      alone_is = t.whole;
+      whole = λ none. none;
     })
 
 -- the first LSN of a spelled log is the lowest that its newest record names
@@ -462,10 +503,10 @@ apart (f ∷ looked) (s ∷ before) behind each =
 same_log : (first other : ℕ) (records others : List Record) → named_lowest records ≡ named_lowest others → drop (named_lowest records - first) records ≡ drop (named_lowest others - other) others → from_lowest first records ≡ from_lowest other others
 same_log first other records others p q i = record { first = p i; records = q i }
 
-module _ (image : Image) (first : ℕ) (records : List Record) (s : Shows image first records) where
+module _ {alone : Type 0} (image : Image) (first : ℕ) (records : List Record) (s : Shows alone image first records) where
   none_spelled : records ≡ [] → Spells image (from_lowest first records)
   none_spelled none =
-      let whole = s.whole none in
+      let whole = s.alone_is (s.whole none) in
       let nothing : all_records s.segments ≡ [] = s.shown ∙ ap (λ (x : List Record). x ++ records) whole.1 ∙ none in
       let one : first_of s.segments ≡ 1 = omega (arith, s.begins, whole.2, ap length whole.1) in
       let enough : IsTrue (are_enough s.older s.segments []) = subst (λ (x : Image). IsTrue (are_enough x s.segments [])) (sym whole.0) (eq-eqb (first_of s.segments) 1 one) in (
@@ -552,6 +593,6 @@ module _ (image : Image) (first : ℕ) (records : List Record) (s : Shows image 
     )
 
 -- the log is spelled from the lowest on that its newest record names, where it is shown from there on
-pub spells : (image : Image) (first : ℕ) (records : List Record) → Shows image first records → ((records ≡ [] → ⊥) → first ≤ named_lowest records) → Spells image (from_lowest first records)
+pub spells : {alone : Type 0} (image : Image) (first : ℕ) (records : List Record) → Shows alone image first records → ((records ≡ [] → ⊥) → first ≤ named_lowest records) → Spells image (from_lowest first records)
 spells image first [] s le = none_spelled image first [] s refl
 spells image first (r ∷ rs) s le = some_spelled image first (r ∷ rs) s (λ e. cc) (le (λ e. cc))

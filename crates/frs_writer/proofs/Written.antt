@@ -16,7 +16,7 @@ use Rattle.frs_writer.specs.Holds.{ShowsFrom, IsKept}
 use Rattle.frs_segment.specs.Scanning.{described}
 use Rattle.frs_writer.specs.Places.{grown, with_newest_grown, length_of_newest, number_of_newest}
 use Rattle.frs_writer.specs.Shown.{new_segment}
-use Rattle.frs_writer.specs.Writer.{WriterView, IsLog, IsWellOpened}
+use Rattle.frs_writer.specs.Writer.{WriterView, IsLog, WasEmpty, IsWellOpened}
 use Rattle.frs_writer.specs.Writing.{is_due, rolled, Wrote}
 use Rattle.frs_writer.proofs.Gathering.{nothing_gathered}
 use Rattle.frs_writer.proofs.Grown.{kept_grown, kept_failed, images_shown, group_within_lsns}
@@ -95,7 +95,7 @@ module _ {D : Type 0} (tells : D → Bool) (reads : D → Image) (may_leave : D 
   ])
 
   pub put_images : (w' : WriterView D) → w'.opened ≡ w.opened → w'.taker ≡ t → IsTrue (tells w.disk) → IsWellOpened reads may_leave w.opened → (log' : Log) → IsLog reads w' log' → Placed log'
-      → Within moment left_since w.disk d (λ c. ShowsFrom w.synced log' (entries c))
+      → Within moment left_since w.disk d (λ c. ShowsFrom (WasEmpty reads w.opened) w.synced log' (entries c))
   put_images w' same taker told well log' is_log placed = elim (cases_lt 0 (length group)) [
     | inl lt ↦
         let some : 1 ≤ length group = omega (arith, lt) in

@@ -11,7 +11,7 @@ use Rattle.frs_segment.specs.Scanning.{described}
 use Rattle.frs_slots.specs.Views.{next_taken}
 use Rattle.frs_writer.specs.Appending.{IsAtGate}
 use Rattle.frs_writer.specs.Shown.{Shows, Rests}
-use Rattle.frs_writer.specs.Writer.{WriterView, IsLog, IsWellOpened}
+use Rattle.frs_writer.specs.Writer.{WriterView, IsLog, WasEmpty, IsWellOpened}
 
 -- ---- numbers
 
@@ -48,20 +48,21 @@ pub record IsAtWork {D : Type 0} (reads : D → Disk) (may_leave : D → Disk �
 -- ---- the log
 
 -- the image shows the log up to a record that isn't before this LSN
-abbrev pub ShowsFrom : ℕ → Log → Image → Type 0
-ShowsFrom synced log image = (n : ℕ) × (synced ≤ n) × (n < next_lsn log) × Shows image log.first (take (n + 1 - log.first) log.records)
+abbrev pub ShowsFrom : Type 0 → ℕ → Log → Image → Type 0
+ShowsFrom alone synced log image = (n : ℕ) × (synced ≤ n) × (n < next_lsn log) × Shows alone image log.first (take (n + 1 - log.first) log.records)
 
 -- what of the log is durable
 abbrev pub durable_of : {D : Type 0} → WriterView D → Log → Log
 durable_of w log = record log { records = take (w.synced + 1 - log.first) log.records }
 
 -- Each image that a crash may leave shows what is durable. While nothing was cut short it shows that and nothing more, the
--- newest file is the same in all of them, and the writer's segments are those that are read.
+-- newest file is the same in all of them, and the writer's segments are those that are read. The log stands alone where it
+-- was empty at the opening.
 pub record Holds {D : Type 0} (reads : D → Disk) (may_leave : D → Disk → Type 0) (w : WriterView D) (log : Log) : Type 0 where
   pub next_is : next_lsn log ≡ next_taken w.taker
-  pub each : (c : Disk) → may_leave w.disk c → ShowsFrom w.synced log (entries c)
+  pub each : (c : Disk) → may_leave w.disk c → ShowsFrom (WasEmpty reads w.opened) w.synced log (entries c)
   pub newest : w.ended ≡ None → (last : Segment)
-      × ((c : Disk) → may_leave w.disk c → Rests (entries c) log.first (durable_of w log).records last)
+      × ((c : Disk) → may_leave w.disk c → Rests (WasEmpty reads w.opened) (entries c) log.first (durable_of w log).records last)
       × ((before : List Segment) × (w.segments ≡ map described (before ++ last ∷ [])))
 
 -- ---- all of it

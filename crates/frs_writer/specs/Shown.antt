@@ -7,8 +7,9 @@ use Rattle.frs_types.specs.declared.record.Record.{Record}
 use Rattle.frs_segment.specs.Segments.{Image, Segment, IsSegment, segment_spelling, open_files, follow_from, first_of, all_records}
 
 -- The newest open files of the image are segments that follow each other, and their records are these from the LSN first
--- on, behind earlier ones. Without a record no other file is open, and the first record would have the LSN 1.
-pub record Shows (image : Image) (first : ℕ) (records : List Record) : Type 0 where
+-- on, behind earlier ones. Where the log stands alone no other file is open, none is earlier, and the first record has the
+-- LSN 1, or would have it. Without a record it stands alone.
+pub record Shows (alone : Type 0) (image : Image) (first : ℕ) (records : List Record) : Type 0 where
   pub rising : IsTrue (is_sorted nat_cmp image)
   pub older : Image
   pub looked : Image
@@ -19,14 +20,15 @@ pub record Shows (image : Image) (first : ℕ) (records : List Record) : Type 0 
   pub earlier : List Record
   pub begins : first_of segments + length earlier ≡ first
   pub shown : all_records segments ≡ earlier ++ records
-  pub whole : records ≡ [] → (older ≡ []) × (earlier ≡ []) × (first ≡ 1)
+  pub alone_is : alone → (older ≡ []) × (earlier ≡ []) × (first ≡ 1)
+  pub whole : records ≡ [] → alone
 
 -- the segment's file, whose last gate is closed and the last of its bytes
 abbrev pub file_of : Segment → ℕ × List ℕ
 file_of s = (s.number, segment_spelling s ++ 0 ∷ [])
 
 -- The same, and the last file is this segment: nothing else stands behind its closed gate or above it.
-pub record Rests (image : Image) (first : ℕ) (records : List Record) (last : Segment) : Type 0 where
+pub record Rests (alone : Type 0) (image : Image) (first : ℕ) (records : List Record) (last : Segment) : Type 0 where
   pub rising : IsTrue (is_sorted nat_cmp image)
   pub front : Image
   pub files : image ≡ front ++ file_of last ∷ []
@@ -40,7 +42,8 @@ pub record Rests (image : Image) (first : ℕ) (records : List Record) (last : S
   pub earlier : List Record
   pub begins : first_of (segments ++ last ∷ []) + length earlier ≡ first
   pub shown : all_records (segments ++ last ∷ []) ≡ earlier ++ records
-  pub whole : records ≡ [] → (older ≡ []) × (earlier ≡ []) × (first ≡ 1)
+  pub alone_is : alone → (older ≡ []) × (earlier ≡ []) × (first ≡ 1)
+  pub whole : records ≡ [] → alone
 
 -- the segment with one more chunk
 abbrev pub with_chunk : Segment → List Record → Segment

@@ -1,5 +1,5 @@
 -- How the writer of a log is seen, what its log is, and what one call of `write_group` does.
-use Rattle.std.specs.Prelude.{◌≡◌, ℕ, List, ◌++◌, map, Option}
+use Rattle.std.specs.Prelude.{◌≡◌, ℕ, List, [], ◌++◌, map, Option}
 use Rattle.std.specs.FinMap.{entries}
 use Rattle.frs_types.specs.declared.record.Record.{Record}
 use Rattle.frs_types.specs.Records.{Log}
@@ -30,6 +30,10 @@ pub record IsLog {D : Type 0} (reads : D → Image) (w : WriterView D) (log : Lo
   pub taken : List Record
   pub bytes : w.taker.taken ≡ map spelling taken
   pub is : log ≡ record base { records = base.records ++ taken }
+
+-- the log was empty at the opening
+abbrev pub WasEmpty : {D : Type 0} → (D → Image) → D → Type 0
+WasEmpty reads opened = Spells (entries (reads opened)) (record { first = 1; records = [] })
 
 -- each image that a crash could leave at the opening said what was read
 abbrev pub IsWellOpened : {D : Type 0} → (D → Image) → (D → Image → Type 0) → D → Type 0

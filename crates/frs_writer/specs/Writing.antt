@@ -1,12 +1,17 @@
 -- What a call of the writer does: to its segments, to what it has taken, and to what a crash may leave.
-use Rattle.std.specs.Prelude.{◌≡◌, ◌⊎◌, ℕ, ◌+◌, ◌^◌, ◌<◌, ◌≤◌, Bool, ◌&&◌, nat_le, nat_lt, List, [], ◌∷◌, ◌++◌, length, Some, None, Result, Ok, Err, IsTrue, if◌then◌else◌}
+use Rattle.std.specs.Prelude.{◌≡◌, ◌⊎◌, ℕ, ◌+◌, ◌^◌, ◌<◌, ◌≤◌, Bool, ◌&&◌, nat_le, nat_lt, List, [], ◌∷◌, ◌++◌, length, take, Some, None, Result, Ok, Err, IsTrue, if◌then◌else◌}
+use Rattle.std.specs.List.{AllZip}
 use Rattle.std.specs.FinMap.{entries}
+use Rattle.std.specs.FinMap.Entries.{is_sorted}
+use Rattle.std.specs.Ordering.{nat_cmp}
+use Rattle.frs_types.specs.declared.record.Record.{Record}
 use Rattle.frs_types.specs.Records.{Log, Placed, next_lsn}
 use Rattle.frs_disk.specs.declared.disk.Fault.{Fault}
 use Rattle.frs_disk.specs.declared.disk.Fault.TheVariants as fault
 use Rattle.frs_disk.specs.Disk.{Image, Rose}
 use Rattle.frs_segment.specs.declared.layout.Segment.{Segment as Described}
-use Rattle.frs_segment.specs.Segments.{Spells}
+use Rattle.frs_segment.specs.Segments.{Segment, IsSegment, Spells, open_files, follow_from, all_records}
+use Rattle.frs_segment.specs.Segments.{Image as Files}
 use Rattle.frs_segment.specs.Scanning.{described}
 use Rattle.frs_segment.specs.Stores.{log_up_to}
 use Rattle.frs_writer.specs.declared.fault.WriteFault.{WriteFault}
@@ -70,6 +75,18 @@ of_fault fault.Memory = Memory
 -- The log, up to a record that isn't before the LSN synced.
 abbrev pub SpellsFrom : ℕ → Log → Image → Type 0
 SpellsFrom synced log c = (n : ℕ) × (synced ≤ n) × (n < next_lsn log) × Spells (entries c) (log_up_to n log)
+
+-- All open files of the image are segments that follow each other from LSN 1 on, and their records are these.
+pub record HoldsAll (image : Files) (records : List Record) : Type 0 where
+  pub rising : IsTrue (is_sorted nat_cmp image)
+  pub segments : List Segment
+  pub each : AllZip IsSegment (open_files image) segments
+  pub follow : IsTrue (follow_from 1 segments)
+  pub shown : all_records segments ≡ records
+
+-- all of the log, up to a record that isn't before the LSN synced; the first record has the LSN 1
+abbrev pub HoldsFrom : ℕ → Log → Image → Type 0
+HoldsFrom synced log c = (n : ℕ) × (synced ≤ n) × (n < next_lsn log) × HoldsAll (entries c) (take n log.records)
 
 -- Where the writer was well opened and its log is placed, each image has this.
 abbrev pub OfPlacedLog : {D : Type 0} → (D → Image) → (D → Image → Type 0) → WriterView D → (Log → Type 0) → Type 0

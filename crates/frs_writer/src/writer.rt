@@ -1,5 +1,5 @@
 // The writer of the log.
-ghost use Rattle.std.specs.Prelude.{◌≡◌, ◌≢◌, ◌↔◌, ◌+◌, ◌-◌, ◌<◌, ◌≤◌, ◌^◌, ◌++◌, ℕ, List, [], ◌∷◌, true, false, None, IsTrue, IsOk, IsErrOf, IfOk, IfErr, OnOk, OnErr, length, min, replicate, slice_index, slice_set};
+ghost use Rattle.std.specs.Prelude.{◌≡◌, ◌≢◌, ◌↔◌, ◌+◌, ◌-◌, ◌<◌, ◌≤◌, ◌^◌, ◌++◌, ℕ, List, [], ◌∷◌, true, false, None, IsTrue, IsOk, IsErrOf, IfOk, IfErr, OnOk, OnErr, length, take, min, replicate, slice_index, slice_set};
 ghost use Rattle.std.specs.FinMap.{entries};
 ghost use mathlib.Core.List.{IsPrefix};
 ghost use Rattle.frs_types.specs.Records.{Log};
@@ -11,8 +11,8 @@ ghost use Rattle.frs_slots.specs.Views.{AreOfOneRing, IsTakenUp, HasRoom};
 ghost use Rattle.frs_writer.specs.declared.fault.WriteFault.TheVariants.{NumberLimit};
 ghost use Rattle.frs_writer.specs.Places.{number_of_newest};
 ghost use Rattle.frs_writer.specs.Shown.{new_segment};
-ghost use Rattle.frs_writer.specs.Writer.{IsWellOpened};
-ghost use Rattle.frs_writer.specs.Writing.{is_due, Wrote, SpellsFrom, OfPlacedLog, HasOpeningCause, HasWriteCause};
+ghost use Rattle.frs_writer.specs.Writer.{WasEmpty, IsWellOpened};
+ghost use Rattle.frs_writer.specs.Writing.{is_due, Wrote, SpellsFrom, HoldsAll, HoldsFrom, OfPlacedLog, HasOpeningCause, HasWriteCause};
 
 use crate::chunk::Chunk;
 use crate::fault::{NotYet, Refused, WriteFault};
@@ -73,7 +73,8 @@ impl<D: Disk> Writer<D> {
     /// number. The taker has taken nothing yet and comes with the next LSN. There are 1 to 64 clients.
     ///
     /// It answers `NumberLimit` exactly where the new segment would have the number 2^62, before anything is changed.
-    /// Where it is refused the disk comes back, and files may have been removed or made.
+    /// Where it is refused the disk comes back, and files may have been removed or made. Where the log was empty no open
+    /// file that a crash may leave has a record.
     pub fn new(
         alloc: Global,
         disk: D,
@@ -97,6 +98,12 @@ impl<D: Disk> Writer<D> {
         ensures images_refused { IfErr result (λ e. IsTrue (D.tells disk) → IsWellOpened D.reads D.may_leave disk → (log : Log) → Spells (entries (D.reads disk)) log
             → Within D.moment D.left_since disk e.disk (λ c. Spells (entries c) log)) }
         ensures newest { IfOk result (λ w. IsTrue (D.tells disk) → IsSynced D.reads D.may_leave w.disk (found.now.greatest + 1)) }
+
+        // Where the log was empty, all open files of each image are its segments, and have no record.
+        ensures whole { IfOk result (λ w. IsTrue (D.tells disk) → IsWellOpened D.reads D.may_leave disk → WasEmpty D.reads disk
+            → Within D.moment D.left_since disk w.disk (λ c. HoldsAll (entries c) [])) }
+        ensures whole_refused { IfErr result (λ e. IsTrue (D.tells disk) → IsWellOpened D.reads D.may_leave disk → WasEmpty D.reads disk
+            → Within D.moment D.left_since disk e.disk (λ c. HoldsAll (entries c) [])) }
 
         ensures limit { IfErr result (λ e. (number : ℕ) → e.fault ≡ NumberLimit number → (number ≡ 2 ^ 62) × (found.now.greatest + 1 ≡ number) × (e.disk ≡ disk)) }
         ensures not_limit { IsOk result → found.now.greatest + 1 < 2 ^ 62 }
@@ -237,7 +244,8 @@ impl<D: Disk> Writer<D> {
     /// where none was kept and no more is known. Where the newest segment has reached 1 MiB it goes on to a new one first.
     ///
     /// Once it answers Ok every record that it counts is durable. Where it is refused with `Disk`, or with `Memory` while
-    /// it wrote, records may be durable or not, and the writer writes no more.
+    /// it wrote, records may be durable or not, and the writer writes no more. Where the log was empty at the opening, all
+    /// open files that a crash may leave are its segments, from LSN 1 on.
     pub fn write_group(&mut self, alloc: Global, limit: u32) -> Result<u32, WriteFault>
         requires { (1 ≤ limit) × (limit ≤ 256) }
 
@@ -247,6 +255,9 @@ impl<D: Disk> Writer<D> {
         ensures refused { OnErr result (self.new.synced ≡ self.old.synced) }
         ensures same { (self.new.opened ≡ self.old.opened) × (self.new.noted ≡ self.old.noted) }
 
+        // Of its ring it has at most taken more.
+        ensures taker { (self.new.taker.ring ≡ self.old.taker.ring) × (self.new.taker.first ≡ self.old.taker.first) }
+
         // Each image since the start spells the log up to a record that isn't before the last one durable at the start.
         ensures images { IsTrue (D.tells self.old.disk) → OfPlacedLog D.reads D.may_leave self.new (λ log.
             Within D.moment D.left_since self.old.disk self.new.disk (SpellsFrom self.old.synced log)) }
@@ -255,6 +266,12 @@ impl<D: Disk> Writer<D> {
         ensures durable { OnOk result (IsTrue (D.tells self.old.disk) → OfPlacedLog D.reads D.may_leave self.new (λ log.
             (c : Image) → D.may_leave self.new.disk c → Spells (entries c) (log_up_to self.new.synced log))) }
         ensures newest { OnOk result (IsTrue (D.tells self.old.disk) → IsSynced D.reads D.may_leave self.new.disk (number_of_newest self.new.segments)) }
+
+        // Where the log was empty at the opening, all open files are its segments, from LSN 1 on.
+        ensures whole { IsTrue (D.tells self.old.disk) → OfPlacedLog D.reads D.may_leave self.new (λ log. WasEmpty D.reads self.new.opened
+            → Within D.moment D.left_since self.old.disk self.new.disk (HoldsFrom self.old.synced log)) }
+        ensures whole_durable { OnOk result (IsTrue (D.tells self.old.disk) → OfPlacedLog D.reads D.may_leave self.new (λ log. WasEmpty D.reads self.new.opened
+            → (c : Image) → D.may_leave self.new.disk c → HoldsAll (entries c) (take self.new.synced log.records))) }
 
         ensures told { D.tells self.new.disk ≡ D.tells self.old.disk }
         ensures time { Passes D.moment D.left_since self.old.disk self.new.disk }
@@ -273,6 +290,8 @@ impl<D: Disk> Writer<D> {
         ensures stopped { OnErr result (self.now.ended ≢ None) }
         ensures images { IsTrue (D.tells self.now.disk) → OfPlacedLog D.reads D.may_leave self.now (λ log.
             Within D.moment D.left_since self.now.disk self.now.disk (SpellsFrom self.now.synced log)) }
+        ensures whole { IsTrue (D.tells self.now.disk) → OfPlacedLog D.reads D.may_leave self.now (λ log. WasEmpty D.reads self.now.opened
+            → Within D.moment D.left_since self.now.disk self.now.disk (HoldsFrom self.now.synced log)) }
     {
         match self.ended {
             None => Ok(()),
@@ -301,10 +320,15 @@ impl<D: Disk> Writer<D> {
         ensures cause { HasWriteCause D.faults self.old self.new result }
         ensures refused { OnErr result (self.new.synced ≡ self.old.synced) }
         ensures same { (self.new.opened ≡ self.old.opened) × (self.new.noted ≡ self.old.noted) }
+        ensures taker { (self.new.taker.ring ≡ self.old.taker.ring) × (self.new.taker.first ≡ self.old.taker.first) }
         ensures images { IsTrue (D.tells self.old.disk) → OfPlacedLog D.reads D.may_leave self.new (λ log.
             Within D.moment D.left_since self.old.disk self.new.disk (SpellsFrom self.old.synced log)) }
         ensures durable { OnOk result (IsTrue (D.tells self.old.disk) → OfPlacedLog D.reads D.may_leave self.new (λ log.
             (c : Image) → D.may_leave self.new.disk c → Spells (entries c) (log_up_to self.new.synced log))) }
+        ensures whole { IsTrue (D.tells self.old.disk) → OfPlacedLog D.reads D.may_leave self.new (λ log. WasEmpty D.reads self.new.opened
+            → Within D.moment D.left_since self.old.disk self.new.disk (HoldsFrom self.old.synced log)) }
+        ensures whole_durable { OnOk result (IsTrue (D.tells self.old.disk) → OfPlacedLog D.reads D.may_leave self.new (λ log. WasEmpty D.reads self.new.opened
+            → (c : Image) → D.may_leave self.new.disk c → HoldsAll (entries c) (take self.new.synced log.records))) }
         ensures newest { OnOk result (IsTrue (D.tells self.old.disk) → IsSynced D.reads D.may_leave self.new.disk (number_of_newest self.new.segments)) }
         ensures told { D.tells self.new.disk ≡ D.tells self.old.disk }
         ensures time { Passes D.moment D.left_since self.old.disk self.new.disk }
@@ -342,10 +366,15 @@ impl<D: Disk> Writer<D> {
         ensures limit { number_of_newest self.old.segments + 1 ≡ 2 ^ 62 → IsErrOf result (NumberLimit (2 ^ 62)) }
         ensures refused { OnErr result (self.new.synced ≡ self.old.synced) }
         ensures same { (self.new.opened ≡ self.old.opened) × (self.new.noted ≡ self.old.noted) }
+        ensures taker { (self.new.taker.ring ≡ self.old.taker.ring) × (self.new.taker.first ≡ self.old.taker.first) }
         ensures images { IsTrue (D.tells self.old.disk) → OfPlacedLog D.reads D.may_leave self.new (λ log.
             Within D.moment D.left_since self.old.disk self.new.disk (SpellsFrom self.old.synced log)) }
         ensures durable { OnOk result (IsTrue (D.tells self.old.disk) → OfPlacedLog D.reads D.may_leave self.new (λ log.
             (c : Image) → D.may_leave self.new.disk c → Spells (entries c) (log_up_to self.new.synced log))) }
+        ensures whole { IsTrue (D.tells self.old.disk) → OfPlacedLog D.reads D.may_leave self.new (λ log. WasEmpty D.reads self.new.opened
+            → Within D.moment D.left_since self.old.disk self.new.disk (HoldsFrom self.old.synced log)) }
+        ensures whole_durable { OnOk result (IsTrue (D.tells self.old.disk) → OfPlacedLog D.reads D.may_leave self.new (λ log. WasEmpty D.reads self.new.opened
+            → (c : Image) → D.may_leave self.new.disk c → HoldsAll (entries c) (take self.new.synced log.records))) }
         ensures newest { OnOk result (IsTrue (D.tells self.old.disk) → IsSynced D.reads D.may_leave self.new.disk (number_of_newest self.new.segments)) }
         ensures told { D.tells self.new.disk ≡ D.tells self.old.disk }
         ensures time { Passes D.moment D.left_since self.old.disk self.new.disk }

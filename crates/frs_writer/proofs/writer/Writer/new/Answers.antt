@@ -1,18 +1,25 @@
-use Rattle.std.proofs.Common.{◌≡◌, ◌∙◌, ◌<◌, ◌+◌, ℕ, IsSome, refl, sym, ap, subst, arith}
+use Rattle.std.proofs.Common.{◌≡◌, ◌∙◌, ◌<◌, ◌+◌, ℕ, [], IsSome, refl, sym, ap, subst, arith}
 use Rattle.std.specs.Prelude.{All}
 use Rattle.std.specs.List.Sorted.{IsStrictlyIncreasing}
-use Rattle.std.specs.FinMap.{get}
+use Rattle.std.specs.FinMap.{get, entries}
 use Rattle.frs_writer.proofs.Beginning.{left_spells, images_spell, kept_begun, none_failed}
 use Rattle.frs_writer.proofs.Found.{found_half, found_rising, found_above, found_none_removed}
+use Rattle.frs_writer.proofs.Whole.{spelled_none}
 use Rattle.frs_writer.proofs.writer.Writer.new.Goals as goal
 
 pub returns-then-number-eq-END-clause-images_refused : goal.returns-then-number-eq-END-clause-images_refused
 returns-then-number-eq-END-clause-images_refused g c = λ told well log spelled x left.
     left_spells g.D.Disk.reads g.D.Disk.may_leave c.args.disk well log spelled x (g.met.D.Disk.only_now c.args.disk x left)
 
+pub returns-then-number-eq-END-clause-whole_refused : goal.returns-then-number-eq-END-clause-whole_refused
+returns-then-number-eq-END-clause-whole_refused g c = λ told well empty x left. spelled_none (entries x) (returns-then-number-eq-END-clause-images_refused g c told well (record { first = 1; records = [] }) empty x left)
+
 pub returns-in_default-clause-images_refused : goal.returns-in_default-clause-images_refused
 returns-in_default-clause-images_refused g c = λ told well log spelled x left.
     left_spells g.D.Disk.reads g.D.Disk.may_leave c.args.disk well log spelled x (g.met.D.Disk.only_now c.args.disk x left)
+
+pub returns-in_default-clause-whole_refused : goal.returns-in_default-clause-whole_refused
+returns-in_default-clause-whole_refused g c = λ told well empty x left. spelled_none (entries x) (returns-in_default-clause-images_refused g c told well (record { first = 1; records = [] }) empty x left)
 
 pub open_next-requires-clause-there : goal.open_next-requires-clause-there
 open_next-requires-clause-there g c = λ told.
@@ -43,6 +50,9 @@ returns-in-Err-clause-images_refused g c =
     c.args.disk c.open_next.new.disk c.args.found.now c.requires.found c.requires.pending c.requires.greatest c.if-number-eq-END.false c.numbers.result.now c.numbers.ensures
     c.args.taker c.requires.taker c.next-first.result c.next-first.ensures.next c.next-first.ensures.first c.open_next.ensures.images
 
+pub returns-in-Err-clause-whole_refused : goal.returns-in-Err-clause-whole_refused
+returns-in-Err-clause-whole_refused g c = λ told well empty x left. spelled_none (entries x) (returns-in-Err-clause-images_refused g c told well (record { first = 1; records = [] }) empty x left)
+
 pub invariant_of-result : goal.invariant_of-result
 invariant_of-result g c =
     let d = g.D.Disk in
@@ -65,3 +75,6 @@ returns-clause-images g c =
     images_spell d.tells d.reads d.may_leave d.removing d.moment d.left_since g.met.D.Disk.counts_now g.met.D.Disk.stays_absent c.one_log.ensures.log
     c.args.disk c.open_next.new.disk c.args.found.now c.requires.found c.requires.pending c.requires.greatest c.if-number-eq-END.false c.numbers.result.now c.numbers.ensures
     c.args.taker c.requires.taker c.next-first.result c.next-first.ensures.next c.next-first.ensures.first c.open_next.ensures.images
+
+pub returns-clause-whole : goal.returns-clause-whole
+returns-clause-whole g c = λ told well empty x left. spelled_none (entries x) (returns-clause-images g c told well (record { first = 1; records = [] }) empty x left)

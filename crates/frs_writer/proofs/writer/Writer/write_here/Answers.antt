@@ -1,4 +1,4 @@
-use Rattle.std.proofs.Common.{◌≡◌, ℕ, ◌+◌, ◌-◌, false, List, [], ◌∷◌, ◌++◌, set, Some, None, refl, sym, ◌∙◌, ap, subst, arith, IsTrue}
+use Rattle.std.proofs.Common.{◌≡◌, ℕ, ◌+◌, ◌-◌, false, List, [], ◌∷◌, ◌++◌, set, take, Some, None, refl, sym, ◌∙◌, ap, subst, arith, IsTrue}
 use Rattle.std.proofs.lemmas.List.{set-get_or}
 use Rattle.std.specs.FinMap.{entries}
 use Rattle.frs_types.specs.Records.{Log, Placed}
@@ -9,11 +9,12 @@ use Rattle.frs_segment.specs.Stores.{log_up_to}
 use Rattle.frs_writer.specs.Groups.{Gathers, PutsGroup}
 use Rattle.frs_writer.specs.Holds.{IsKept}
 use Rattle.frs_writer.specs.Inside.{seen}
-use Rattle.frs_writer.specs.Writer.{WriterView, IsLog, IsWellOpened}
+use Rattle.frs_writer.specs.Writer.{WriterView, IsLog, WasEmpty, IsWellOpened}
 use Rattle.frs_writer.specs.Places.{number_of_newest}
-use Rattle.frs_writer.specs.Writing.{is_due, SpellsFrom}
+use Rattle.frs_writer.specs.Writing.{is_due, SpellsFrom, HoldsAll, HoldsFrom}
 use Rattle.frs_writer.proofs.Segments.{taken_out, put_back}
 use Rattle.frs_writer.proofs.Spelled.{spells_from, durable_spells, newest_synced}
+use Rattle.frs_writer.proofs.Whole.{durable_whole, from_whole}
 use Rattle.frs_writer.proofs.Written.{IsPut, ok_kept, err_kept, put_images, put_wrote, short_here, broke, not_broken, not_due}
 use Rattle.frs_writer.proofs.writer.Writer.write_here.Goals as goal
 
@@ -42,6 +43,17 @@ returns-in_err-places-clause-images g c =
     let l : IsLog d.reads (seen c.self.inside) log = record { base = is_log.base; spelled = is_log.spelled; taken = is_log.taken; bytes = is_log.bytes; is = is_log.is } in
     spells_from d.tells d.reads d.may_leave d.removing (seen c.self.inside) old.kept_is told well log l placed c.self.inside.synced old.kept_is.counted.first x
     ((old.kept_is.holds told well log l placed).each x (g.met.D.Disk.only_now c.self.inside.disk x left)))
+
+pub returns-in_err-places-clause-whole : goal.returns-in_err-places-clause-whole
+returns-in_err-places-clause-whole g c =
+    let d = g.D.Disk in
+    let old = c.self.invariant in
+    subst (λ (v : WriterView g.row.D.Denot). IsTrue (d.tells v.disk) → IsWellOpened d.reads d.may_leave c.self.inside.opened.value → (log : Log) → IsLog d.reads (record (seen c.self.inside) { segments = set c.self.inside.segments.items (c.len-newest.result - 1) c.places_with_room.new.segment }) log → Placed log → WasEmpty d.reads c.self.inside.opened.value
+    → (x : Image) → d.left_since c.self.inside.disk (d.moment v.disk) x → HoldsFrom v.synced log x) c.self.view_is
+    (λ told well log is_log placed empty x left.
+    let l : IsLog d.reads (seen c.self.inside) log = record { base = is_log.base; spelled = is_log.spelled; taken = is_log.taken; bytes = is_log.bytes; is = is_log.is } in
+    from_whole c.self.inside.synced log x
+    ((old.kept_is.holds told well log l placed).each x (g.met.D.Disk.only_now c.self.inside.disk x left)) empty)
 
 -- ---- where it was written
 
@@ -145,6 +157,22 @@ returns-in-Ok-clause-images g c =
     (short_here d.tells d.reads d.may_leave d.removing (seen c.self.inside) old.kept_is fine c.args.limit c.put_group-written.new.taker c.put_group-written.new.kept group gathers here)
     (view-PutOk g c) refl refl told well log is_log placed x left))
 
+pub returns-in-Ok-clause-whole : goal.returns-in-Ok-clause-whole
+returns-in-Ok-clause-whole g c =
+    let d = g.D.Disk in
+    let old = c.self.invariant in
+    let (group, gathers, put) = put-PutOk g c in
+    let fine : c.self.inside.ended ≡ None = ap (λ (v : WriterView g.row.D.Denot). v.ended) c.self.view_is ∙ c.requires.fine in
+    let here : is_due (seen c.self.inside) ≡ false = ap is_due c.self.view_is ∙ c.requires.here in
+    subst (λ (v : WriterView g.row.D.Denot). IsTrue (d.tells v.disk) → IsWellOpened d.reads d.may_leave c.self.inside.opened.value → (log : Log) → IsLog d.reads (view-PutOk g c) log → Placed log → WasEmpty d.reads c.self.inside.opened.value
+    → (x : Image) → d.left_since c.put_group-written.new.disk (d.moment v.disk) x → HoldsFrom v.synced log x) c.self.view_is
+    (λ told well log is_log placed empty x left.
+    from_whole c.self.inside.synced log x
+    (put_images d.tells d.reads d.may_leave d.removing d.moment d.left_since g.met.D.Disk.as_read g.met.D.Disk.counts_now g.met.D.Disk.only_now (seen c.self.inside) old.kept_is fine
+    c.args.limit c.requires.limit.1 c.put_group-written.new.taker c.put_group-written.new.kept group gathers c.put_group-written.new.disk c.put_group-written.new.segment c.put_group-written.result put
+    (short_here d.tells d.reads d.may_leave d.removing (seen c.self.inside) old.kept_is fine c.args.limit c.put_group-written.new.taker c.put_group-written.new.kept group gathers here)
+    (view-PutOk g c) refl refl told well log is_log placed x left) empty)
+
 pub returns-in-Ok-clause-durable : goal.returns-in-Ok-clause-durable
 returns-in-Ok-clause-durable g c =
     let d = g.D.Disk in
@@ -153,6 +181,15 @@ returns-in-Ok-clause-durable g c =
     → (x : Image) → d.may_leave c.put_group-written.new.disk x → Spells (entries x) (log_up_to (c.self.inside.synced + c.from.result) log)) c.self.view_is
     (λ told well log is_log placed x left.
     durable_spells d.tells d.reads d.may_leave d.removing (view-PutOk g c) (invariant_of-self-in-Ok g c).kept_is (told-PutOk g c told) well log is_log placed fine x left)
+
+pub returns-in-Ok-clause-whole_durable : goal.returns-in-Ok-clause-whole_durable
+returns-in-Ok-clause-whole_durable g c =
+    let d = g.D.Disk in
+    let fine : c.self.inside.ended ≡ None = ap (λ (v : WriterView g.row.D.Denot). v.ended) c.self.view_is ∙ c.requires.fine in
+    subst (λ (v : WriterView g.row.D.Denot). IsTrue (d.tells v.disk) → IsWellOpened d.reads d.may_leave c.self.inside.opened.value → (log : Log) → IsLog d.reads (view-PutOk g c) log → Placed log → WasEmpty d.reads c.self.inside.opened.value
+    → (x : Image) → d.may_leave c.put_group-written.new.disk x → HoldsAll (entries x) (take (c.self.inside.synced + c.from.result) log.records)) c.self.view_is
+    (λ told well log is_log placed empty x left.
+    durable_whole d.tells d.reads d.may_leave d.removing (view-PutOk g c) (invariant_of-self-in-Ok g c).kept_is (told-PutOk g c told) well log is_log placed empty fine x left)
 
 pub returns-in-Ok-clause-newest : goal.returns-in-Ok-clause-newest
 returns-in-Ok-clause-newest g c =
@@ -238,3 +275,19 @@ returns-in-Err-clause-images g c =
     c.args.limit c.requires.limit.1 c.put_group-written.new.taker c.put_group-written.new.kept group gathers c.put_group-written.new.disk c.put_group-written.new.segment c.put_group-written.result put
     (short_here d.tells d.reads d.may_leave d.removing (seen c.self.inside) old.kept_is fine c.args.limit c.put_group-written.new.taker c.put_group-written.new.kept group gathers here)
     (view-PutErr g c) refl refl told well log is_log placed x left))
+
+pub returns-in-Err-clause-whole : goal.returns-in-Err-clause-whole
+returns-in-Err-clause-whole g c =
+    let d = g.D.Disk in
+    let old = c.self.invariant in
+    let (group, gathers, put) = put-PutErr g c in
+    let fine : c.self.inside.ended ≡ None = ap (λ (v : WriterView g.row.D.Denot). v.ended) c.self.view_is ∙ c.requires.fine in
+    let here : is_due (seen c.self.inside) ≡ false = ap is_due c.self.view_is ∙ c.requires.here in
+    subst (λ (v : WriterView g.row.D.Denot). IsTrue (d.tells v.disk) → IsWellOpened d.reads d.may_leave c.self.inside.opened.value → (log : Log) → IsLog d.reads (view-PutErr g c) log → Placed log → WasEmpty d.reads c.self.inside.opened.value
+    → (x : Image) → d.left_since c.put_group-written.new.disk (d.moment v.disk) x → HoldsFrom v.synced log x) c.self.view_is
+    (λ told well log is_log placed empty x left.
+    from_whole c.self.inside.synced log x
+    (put_images d.tells d.reads d.may_leave d.removing d.moment d.left_since g.met.D.Disk.as_read g.met.D.Disk.counts_now g.met.D.Disk.only_now (seen c.self.inside) old.kept_is fine
+    c.args.limit c.requires.limit.1 c.put_group-written.new.taker c.put_group-written.new.kept group gathers c.put_group-written.new.disk c.put_group-written.new.segment c.put_group-written.result put
+    (short_here d.tells d.reads d.may_leave d.removing (seen c.self.inside) old.kept_is fine c.args.limit c.put_group-written.new.taker c.put_group-written.new.kept group gathers here)
+    (view-PutErr g c) refl refl told well log is_log placed x left) empty)

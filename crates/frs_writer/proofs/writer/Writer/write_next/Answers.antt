@@ -1,4 +1,4 @@
-use Rattle.std.proofs.Common.{◌≡◌, ℕ, ◌+◌, ◌-◌, ◌^◌, ◌<◌, ◌≤◌, true, List, [], ◌∷◌, ◌++◌, length, get_or, set, Option, Some, None, refl, sym, ◌∙◌, ap, subst, arith, length-append, IsTrue}
+use Rattle.std.proofs.Common.{◌≡◌, ℕ, ◌+◌, ◌-◌, ◌^◌, ◌<◌, ◌≤◌, true, List, [], ◌∷◌, ◌++◌, length, get_or, set, take, Option, Some, None, refl, sym, ◌∙◌, ap, subst, arith, length-append, IsTrue}
 use Rattle.std.specs.Prelude.{nat_lt}
 use Rattle.std.proofs.lemmas.Bool.{and_parts, ltb-true}
 use Rattle.std.proofs.lemmas.List.{get_or_at, set_at}
@@ -17,13 +17,14 @@ use Rattle.frs_writer.specs.Holds.{IsKept}
 use Rattle.frs_writer.specs.Inside.{seen}
 use Rattle.frs_writer.specs.Places.{number_of_newest}
 use Rattle.frs_writer.specs.Shown.{new_segment}
-use Rattle.frs_writer.specs.Writer.{WriterView, IsLog, IsWellOpened}
-use Rattle.frs_writer.specs.Writing.{is_due, rolled, SpellsFrom}
+use Rattle.frs_writer.specs.Writer.{WriterView, IsLog, WasEmpty, IsWellOpened}
+use Rattle.frs_writer.specs.Writing.{is_due, rolled, SpellsFrom, HoldsAll, HoldsFrom}
 use Rattle.frs_writer.proofs.Next.{rolled_newest, put_time, next_images}
 use Rattle.frs_writer.proofs.Rolled.{kept_cut, kept_rolled, rolled_images, rolled_view}
 use Rattle.frs_writer.proofs.Segments.{newest_get, newest_number, fresh}
 use Rattle.frs_writer.proofs.Spelled.{spells_from, durable_spells, newest_synced, unchanged_spells}
 use Rattle.frs_writer.proofs.Thinning.{no_time}
+use Rattle.frs_writer.proofs.Whole.{durable_whole, from_whole, unchanged_whole}
 use Rattle.frs_writer.proofs.Written.{IsPut, ok_kept, err_kept, put_wrote, broke, not_broken, due}
 use Rattle.frs_writer.proofs.writer.Writer.write_next.Goals as goal
 
@@ -65,12 +66,28 @@ returns-then-number-eq-END-clause-images g c =
     → (x : Image) → d.left_since v.disk (d.moment v.disk) x → SpellsFrom v.synced log x) c.self.view_is
     (unchanged_spells d.tells d.reads d.may_leave d.removing d.moment d.left_since g.met.D.Disk.only_now (seen c.self.inside) c.self.invariant.kept_is)
 
+pub returns-then-number-eq-END-clause-whole : goal.returns-then-number-eq-END-clause-whole
+returns-then-number-eq-END-clause-whole g c =
+    let d = g.D.Disk in
+    subst (λ (v : WriterView g.row.D.Denot). IsTrue (d.tells v.disk) → IsWellOpened d.reads d.may_leave v.opened → (log : Log) → IsLog d.reads v log → Placed log → WasEmpty d.reads v.opened
+    → (x : Image) → d.left_since v.disk (d.moment v.disk) x → HoldsFrom v.synced log x) c.self.view_is
+    (λ told well log is_log placed empty.
+    unchanged_whole d.tells d.reads d.may_leave d.removing (seen c.self.inside) c.self.invariant.kept_is told well log is_log placed empty d.moment d.left_since g.met.D.Disk.only_now)
+
 pub returns-in_default-clause-images : goal.returns-in_default-clause-images
 returns-in_default-clause-images g c =
     let d = g.D.Disk in
     subst (λ (v : WriterView g.row.D.Denot). IsTrue (d.tells v.disk) → IsWellOpened d.reads d.may_leave v.opened → (log : Log) → IsLog d.reads v log → Placed log
     → (x : Image) → d.left_since v.disk (d.moment v.disk) x → SpellsFrom v.synced log x) c.self.view_is
     (unchanged_spells d.tells d.reads d.may_leave d.removing d.moment d.left_since g.met.D.Disk.only_now (seen c.self.inside) c.self.invariant.kept_is)
+
+pub returns-in_default-clause-whole : goal.returns-in_default-clause-whole
+returns-in_default-clause-whole g c =
+    let d = g.D.Disk in
+    subst (λ (v : WriterView g.row.D.Denot). IsTrue (d.tells v.disk) → IsWellOpened d.reads d.may_leave v.opened → (log : Log) → IsLog d.reads v log → Placed log → WasEmpty d.reads v.opened
+    → (x : Image) → d.left_since v.disk (d.moment v.disk) x → HoldsFrom v.synced log x) c.self.view_is
+    (λ told well log is_log placed empty.
+    unchanged_whole d.tells d.reads d.may_leave d.removing (seen c.self.inside) c.self.invariant.kept_is told well log is_log placed empty d.moment d.left_since g.met.D.Disk.only_now)
 
 pub returns-then-is_err-clause-images : goal.returns-then-is_err-clause-images
 returns-then-is_err-clause-images g c =
@@ -80,6 +97,15 @@ returns-then-is_err-clause-images g c =
     → (x : Image) → d.left_since c.self.inside.disk (d.moment v.disk) x → SpellsFrom v.synced log x) c.self.view_is
     (λ told well log is_log placed x left. unchanged_spells d.tells d.reads d.may_leave d.removing d.moment d.left_since g.met.D.Disk.only_now (seen c.self.inside) c.self.invariant.kept_is told well log
     (record { base = is_log.base; spelled = is_log.spelled; taken = is_log.taken; bytes = is_log.bytes; is = is_log.is }) placed x left)
+
+pub returns-then-is_err-clause-whole : goal.returns-then-is_err-clause-whole
+returns-then-is_err-clause-whole g c =
+    let d = g.D.Disk in
+    subst (λ (v : WriterView g.row.D.Denot). IsTrue (d.tells v.disk) → IsWellOpened d.reads d.may_leave c.self.inside.opened.value → (log : Log)
+    → IsLog d.reads (record (seen c.self.inside) { segments = c.reserve.new.self.items }) log → Placed log → WasEmpty d.reads c.self.inside.opened.value
+    → (x : Image) → d.left_since c.self.inside.disk (d.moment v.disk) x → HoldsFrom v.synced log x) c.self.view_is
+    (λ told well log is_log placed empty x left. unchanged_whole d.tells d.reads d.may_leave d.removing (seen c.self.inside) c.self.invariant.kept_is told well log
+    (record { base = is_log.base; spelled = is_log.spelled; taken = is_log.taken; bytes = is_log.bytes; is = is_log.is }) placed empty d.moment d.left_since g.met.D.Disk.only_now x left)
 
 -- ---- where the segment's making was cut short
 
@@ -137,6 +163,19 @@ returns-in-Err-clause-images g c =
     spells_from d.tells d.reads d.may_leave d.removing (seen c.self.inside) old.kept_is told well log l placed c.self.inside.synced old.kept_is.counted.first x
     (rolled_images d.tells d.reads d.may_leave d.removing d.moment d.left_since g.met.D.Disk.counts_now g.met.D.Disk.stays_absent (seen c.self.inside) old.kept_is (fine-cut g c) c.open_segment.new.disk
     c.open_segment.ensures.time.later c.open_segment.ensures.told (high-cut g c) (below-cut g c) (elsewhere-cut g c) (making-cut g c) told well log l placed x left))
+
+pub returns-in-Err-clause-whole : goal.returns-in-Err-clause-whole
+returns-in-Err-clause-whole g c =
+    let d = g.D.Disk in
+    let old = c.self.invariant in
+    subst (λ (v : WriterView g.row.D.Denot). IsTrue (d.tells v.disk) → IsWellOpened d.reads d.may_leave c.self.inside.opened.value → (log : Log)
+    → IsLog d.reads (record (seen c.self.inside) { disk = c.open_segment.new.disk; segments = c.reserve.new.self.items; ended = Some c.in-Err.fault }) log → Placed log → WasEmpty d.reads c.self.inside.opened.value
+    → (x : Image) → d.left_since c.open_segment.new.disk (d.moment v.disk) x → HoldsFrom v.synced log x) c.self.view_is
+    (λ told well log is_log placed empty x left.
+    let l : IsLog d.reads (seen c.self.inside) log = record { base = is_log.base; spelled = is_log.spelled; taken = is_log.taken; bytes = is_log.bytes; is = is_log.is } in
+    from_whole c.self.inside.synced log x
+    (rolled_images d.tells d.reads d.may_leave d.removing d.moment d.left_since g.met.D.Disk.counts_now g.met.D.Disk.stays_absent (seen c.self.inside) old.kept_is (fine-cut g c) c.open_segment.new.disk
+    c.open_segment.ensures.time.later c.open_segment.ensures.told (high-cut g c) (below-cut g c) (elsewhere-cut g c) (making-cut g c) told well log l placed x left) empty)
 
 -- ---- the new segment
 
@@ -319,6 +358,22 @@ returns-in-Ok-written-clause-images g c =
     (no_time d.moment d.left_since d.may_leave [] c.open_segment.new.disk) put)
     (view-ok g c) refl refl told well log is_log placed x left))
 
+pub returns-in-Ok-written-clause-whole : goal.returns-in-Ok-written-clause-whole
+returns-in-Ok-written-clause-whole g c =
+    let d = g.D.Disk in
+    let old = c.self.invariant in
+    let (group, gathers, put) = put-ok g c in
+    subst (λ (v : WriterView g.row.D.Denot). IsTrue (d.tells v.disk) → IsWellOpened d.reads d.may_leave c.self.inside.opened.value → (log : Log) → IsLog d.reads (view-ok g c) log → Placed log → WasEmpty d.reads c.self.inside.opened.value
+    → (x : Image) → d.left_since c.put_group-written.new.disk (d.moment v.disk) x → HoldsFrom v.synced log x) c.self.view_is
+    (λ told well log is_log placed empty x left.
+    from_whole c.self.inside.synced log x
+    (next_images d.tells d.reads d.may_leave d.removing d.moment d.left_since g.met.D.Disk.as_read g.met.D.Disk.counts_now g.met.D.Disk.only_now g.met.D.Disk.stays_absent (seen c.self.inside) old.kept_is (fine-ok g c) c.open_segment.new.disk
+    c.open_segment.ensures.time c.open_segment.ensures.told (high-ok g c) (below-ok g c) (elsewhere-ok g c) (making-ok g c) (kept1-ok g c)
+    c.args.limit c.requires.limit.1 c.put_group-written.new.taker c.put_group-written.new.kept group gathers c.put_group-written.new.disk c.put_group-written.new.segment c.put_group-written.result put (λ one. short-ok g c)
+    (put_time d.tells d.reads d.may_leave d.removing d.moment d.left_since g.met.D.Disk.since_earlier c.open_segment.new.disk c.open_segment.new.disk c.put_group-written.new.disk (kept1-ok g c).counted.newest c.put_group-written.new.segment group c.put_group-written.result
+    (no_time d.moment d.left_since d.may_leave [] c.open_segment.new.disk) put)
+    (view-ok g c) refl refl told well log is_log placed x left) empty)
+
 pub returns-in-Ok-written-clause-time : goal.returns-in-Ok-written-clause-time
 returns-in-Ok-written-clause-time g c =
     let d = g.D.Disk in
@@ -334,6 +389,14 @@ returns-in-Ok-written-clause-durable g c =
     → (x : Image) → d.may_leave c.put_group-written.new.disk x → Spells (entries x) (log_up_to (c.self.inside.synced + c.from-in-Ok-written.result) log)) c.self.view_is
     (λ told well log is_log placed x left.
     durable_spells d.tells d.reads d.may_leave d.removing (view-ok g c) (invariant_of-self-in-Ok-written g c).kept_is (told-ok g c told) well log is_log placed (fine-ok g c) x left)
+
+pub returns-in-Ok-written-clause-whole_durable : goal.returns-in-Ok-written-clause-whole_durable
+returns-in-Ok-written-clause-whole_durable g c =
+    let d = g.D.Disk in
+    subst (λ (v : WriterView g.row.D.Denot). IsTrue (d.tells v.disk) → IsWellOpened d.reads d.may_leave c.self.inside.opened.value → (log : Log) → IsLog d.reads (view-ok g c) log → Placed log → WasEmpty d.reads c.self.inside.opened.value
+    → (x : Image) → d.may_leave c.put_group-written.new.disk x → HoldsAll (entries x) (take (c.self.inside.synced + c.from-in-Ok-written.result) log.records)) c.self.view_is
+    (λ told well log is_log placed empty x left.
+    durable_whole d.tells d.reads d.may_leave d.removing (view-ok g c) (invariant_of-self-in-Ok-written g c).kept_is (told-ok g c told) well log is_log placed empty (fine-ok g c) x left)
 
 pub returns-in-Ok-written-clause-newest : goal.returns-in-Ok-written-clause-newest
 returns-in-Ok-written-clause-newest g c =
@@ -483,6 +546,22 @@ returns-in-Err-written-clause-images g c =
     (put_time d.tells d.reads d.may_leave d.removing d.moment d.left_since g.met.D.Disk.since_earlier c.open_segment.new.disk c.open_segment.new.disk c.put_group-written.new.disk (kept1-err g c).counted.newest c.put_group-written.new.segment group c.put_group-written.result
     (no_time d.moment d.left_since d.may_leave [] c.open_segment.new.disk) put)
     (view-err g c) refl refl told well log is_log placed x left))
+
+pub returns-in-Err-written-clause-whole : goal.returns-in-Err-written-clause-whole
+returns-in-Err-written-clause-whole g c =
+    let d = g.D.Disk in
+    let old = c.self.invariant in
+    let (group, gathers, put) = put-err g c in
+    subst (λ (v : WriterView g.row.D.Denot). IsTrue (d.tells v.disk) → IsWellOpened d.reads d.may_leave c.self.inside.opened.value → (log : Log) → IsLog d.reads (view-err g c) log → Placed log → WasEmpty d.reads c.self.inside.opened.value
+    → (x : Image) → d.left_since c.put_group-written.new.disk (d.moment v.disk) x → HoldsFrom v.synced log x) c.self.view_is
+    (λ told well log is_log placed empty x left.
+    from_whole c.self.inside.synced log x
+    (next_images d.tells d.reads d.may_leave d.removing d.moment d.left_since g.met.D.Disk.as_read g.met.D.Disk.counts_now g.met.D.Disk.only_now g.met.D.Disk.stays_absent (seen c.self.inside) old.kept_is (fine-err g c) c.open_segment.new.disk
+    c.open_segment.ensures.time c.open_segment.ensures.told (high-err g c) (below-err g c) (elsewhere-err g c) (making-err g c) (kept1-err g c)
+    c.args.limit c.requires.limit.1 c.put_group-written.new.taker c.put_group-written.new.kept group gathers c.put_group-written.new.disk c.put_group-written.new.segment c.put_group-written.result put (λ one. short-err g c)
+    (put_time d.tells d.reads d.may_leave d.removing d.moment d.left_since g.met.D.Disk.since_earlier c.open_segment.new.disk c.open_segment.new.disk c.put_group-written.new.disk (kept1-err g c).counted.newest c.put_group-written.new.segment group c.put_group-written.result
+    (no_time d.moment d.left_since d.may_leave [] c.open_segment.new.disk) put)
+    (view-err g c) refl refl told well log is_log placed x left) empty)
 
 pub returns-in-Err-written-clause-time : goal.returns-in-Err-written-clause-time
 returns-in-Err-written-clause-time g c =
