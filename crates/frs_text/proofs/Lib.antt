@@ -3,6 +3,8 @@ mod FoundLines
 mod Gathered
 mod JoinedWords
 mod Numbers
+mod PlaceOrder
 mod SaidLines
 mod ScriptLaw
+mod StoreNumbers
 mod WordParts

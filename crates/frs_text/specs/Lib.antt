@@ -1,6 +1,7 @@
 pub mod CommandLine
 pub mod Lines
 pub mod Reading
+pub mod Rows
 pub mod Scripts
 pub mod Sinks
 pub mod Text

@@ -1,5 +1,5 @@
--- What is printed: words with escapes, and the transcript.
-use Rattle.std.specs.Prelude.{ℕ, ◌/◌, ◌%◌, Bool, true, false, not, ◌&&◌, ◌==◌, nat_le, List, [], ◌∷◌, ◌++◌, flat_map, find, option_map, unwrap_or, slice_index_or, if◌then◌else◌, codes, decimal}
+-- What is printed: words with escapes, the transcript, the maps, and the seven numbers of a store.
+use Rattle.std.specs.Prelude.{ℕ, ◌-◌, ◌/◌, ◌%◌, Bool, true, false, not, ◌&&◌, ◌==◌, nat_le, List, [], ◌∷◌, ◌++◌, flat_map, find, length, option_map, unwrap_or, slice_index_or, sum_by, if◌then◌else◌, codes, decimal}
 use Rattle.std.specs.Fmt.{digit_glyph}
 use Rattle.std.specs.List.{join_with_byte}
 use Rattle.frs_history.specs.declared.event.Ack.{Ack}
@@ -12,6 +12,12 @@ use Rattle.frs_history.specs.declared.event.Reply.TheVariants as reply
 use Rattle.frs_history.specs.declared.event.What.{What}
 use Rattle.frs_history.specs.declared.event.What.TheVariants as what
 use Rattle.frs_history.specs.Machine.{Scripts}
+use Rattle.frs_types.specs.Maps.{Place, Maps}
+use Rattle.frs_types.specs.Records.{Log, next_lsn}
+use Rattle.frs_types.specs.Survivors.{survivors, lowest_of}
+use Rattle.frs_segment.specs.declared.layout.Segment.{Segment as Described}
+use Rattle.frs_segment.specs.Segments.{Segment}
+use Rattle.frs_recovery.specs.declared.recovered.Recovered.{Recovered}
 
 -- ---- words and lines
 
@@ -79,3 +85,54 @@ ack_line a = line (codes "durable" ∷ decimal a.client ∷ decimal a.line ∷ [
 -- the events in order, the acknowledgements in the order in which they were made, and the last line
 abbrev pub transcript : Scripts → List Event → List Ack → Text → Text
 transcript scripts events acks last = flat_map (event_line scripts) events ++ flat_map ack_line acks ++ last
+
+-- ---- the maps, and the numbers of a store
+
+-- a line for each entry of the maps, which stand in the byte order of id and then key
+abbrev pub entry_line : Place × List ℕ → Text
+entry_line e = line (word e.0.0 ∷ word e.0.1 ∷ word e.1 ∷ [])
+
+abbrev pub dump : Maps → Text
+dump m = flat_map entry_line m
+
+pub record Stat : Type 0 where
+  pub segments : ℕ
+  pub chunks : ℕ
+  pub records : ℕ
+  pub next : ℕ
+  pub lowest : ℕ
+  pub live : ℕ
+  pub gap : ℕ
+
+-- of the log that a store's files spell by these segments
+abbrev pub stat_of : List Segment → Log → Stat
+stat_of segments log = record {
+  segments = length segments;
+  chunks = sum_by (λ (s : Segment). length s.chunks) segments;
+  records = length log.records;
+  next = next_lsn log;
+  lowest = lowest_of log;
+  live = length (survivors log);
+  gap = next_lsn log - lowest_of log;
+}
+
+-- of a store as it was read back
+abbrev pub stat_found : Recovered → Stat
+stat_found r = record {
+  segments = length r.found.segments;
+  chunks = sum_by (λ (s : Described). length s.chunks) r.found.segments;
+  records = r.found.next - r.found.named;
+  next = r.found.next;
+  lowest = r.lowest;
+  live = length r.entries;
+  gap = r.found.next - r.lowest;
+}
+
+abbrev pub number_line : Text → ℕ → Text
+number_line name n = line (name ∷ decimal n ∷ [])
+
+abbrev pub stat_text : Stat → Text
+stat_text s =
+    number_line (codes "segments") s.segments ++ number_line (codes "chunks") s.chunks ++ number_line (codes "records") s.records
+    ++ number_line (codes "next") s.next ++ number_line (codes "lowest") s.lowest ++ number_line (codes "live") s.live
+    ++ number_line (codes "gap") s.gap

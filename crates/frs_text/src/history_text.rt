@@ -7,41 +7,10 @@ ghost use Rattle.frs_text.specs.Sinks.{Gathers};
 ghost use Rattle.frs_text.specs.Text.{event_line, ack_line};
 
 use crate::lines::{push_ack, push_event};
+use crate::pieces::{write_full, write_gathered};
 use frs_disk::{Fault, Sink};
 use frs_history::{Ack, Event, Script};
 use std::alloc::Global;
-
-/// So many bytes are gathered before they are written.
-const PIECE: usize = 65_536;
-
-// Hands what is gathered to the sink.
-fn write_gathered<S: Sink>(text: &mut String, sink: &mut S) -> Result<(), Fault>
-    ensures all { OnOk result (IsTrue (S.tells sink.old) → Gathers (S.written sink.old) (string_bytes text.old) (S.written sink.new) (string_bytes text.new) []) }
-    ensures part { IsTrue (S.tells sink.old) → AddsPartOf (string_bytes text.old) (S.written sink.old) (S.written sink.new) }
-    ensures told { S.tells sink.new ≡ S.tells sink.old }
-    ensures cause { HasCause (S.faults sink.old) (S.faults sink.new) result }
-    ensures empty { OnOk result (string_bytes text.new ≡ []) }
-{
-    if text.is_empty() {
-        return Ok(());
-    }
-    sink.write(text.as_bytes())?;
-    text.clear();
-    Ok(())
-}
-
-// Hands what is gathered to the sink, where it is enough for a piece.
-fn write_full<S: Sink>(text: &mut String, sink: &mut S) -> Result<(), Fault>
-    ensures all { OnOk result (IsTrue (S.tells sink.old) → Gathers (S.written sink.old) (string_bytes text.old) (S.written sink.new) (string_bytes text.new) []) }
-    ensures part { IsTrue (S.tells sink.old) → AddsPartOf (string_bytes text.old) (S.written sink.old) (S.written sink.new) }
-    ensures told { S.tells sink.new ≡ S.tells sink.old }
-    ensures cause { HasCause (S.faults sink.old) (S.faults sink.new) result }
-{
-    if text.len() < PIECE {
-        return Ok(());
-    }
-    write_gathered(text, sink)
-}
 
 fn write_event<S: Sink>(
     text: &mut String,

@@ -43,16 +43,23 @@ fn push_bytes(text: &mut String, bytes: &[u8]) -> Result<(), NoMemory>
     Ok(())
 }
 
-// A space, and the word.
-pub(crate) fn push_word(text: &mut String, bytes: &[u8]) -> Result<(), NoMemory>
-    ensures { OnOk result (string_bytes text.new ≡ string_bytes text.old ++ 32 ∷ word bytes.now) }
+// The word.
+pub(crate) fn push_shown(text: &mut String, bytes: &[u8]) -> Result<(), NoMemory>
+    ensures { OnOk result (string_bytes text.new ≡ string_bytes text.old ++ word bytes.now) }
 {
-    text.push(' ')?;
     if bytes.is_empty() {
         text.push('%')?;
         return Ok(());
     }
     push_bytes(text, bytes)
+}
+
+// A space, and the word.
+pub(crate) fn push_word(text: &mut String, bytes: &[u8]) -> Result<(), NoMemory>
+    ensures { OnOk result (string_bytes text.new ≡ string_bytes text.old ++ 32 ∷ word bytes.now) }
+{
+    text.push(' ')?;
+    push_shown(text, bytes)
 }
 
 pub(crate) fn push_command(text: &mut String, command: &Command) -> Result<(), NoMemory>

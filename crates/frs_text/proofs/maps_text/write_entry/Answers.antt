@@ -1,0 +1,5 @@
+use Rattle.frs_text.proofs.Gathered.{nothing_taken}
+use Rattle.frs_text.proofs.maps_text.write_entry.Goals as goal
+
+pub returns-in_err-push_entry-clause-part : goal.returns-in_err-push_entry-clause-part
+returns-in_err-push_entry-clause-part g c = λ told. nothing_taken _ _
