@@ -29,7 +29,7 @@ none_there image n is some = let there : IsSome (get (empty {X = List ℕ} {R = 
 
 -- no file shows no record
 none_shown : (commits : List Changes) → ShowsPuts [] commits 0 0
-none_shown commits = record { one = omega arith; number = refl; segments = []; each = tt; follow = refl; newest = refl; lawful = refl; kinds = refl; count = refl; known = omega arith; maps = refl }
+none_shown commits = record { segments = []; each = tt; follow = refl; newest = refl; lawful = refl; kinds = refl; count = refl; known = omega arith; maps = refl }
 
 pub empty_shown : (commits : List Changes) (image : Image) → image ≡ empty → ShowsPuts (entries image) commits 0 0
 empty_shown commits image is = subst (λ (files : List (ℕ × List ℕ)). ShowsPuts files commits 0 0) (sym (ap (λ (i : Image). entries i) is ∙ entries_empty)) (none_shown commits)

@@ -1,12 +1,11 @@
 -- A run from one answer to the next, and from one record to the next.
-use Rattle.std.proofs.Common.{◌≡◌, ◌⊎◌, ⊎_elim, ℕ, ◌+◌, ◌^◌, ◌<◌, Bool, true, List, [], ◌∷◌, ◌++◌, length, take, Option, Some, None, refl, sym, ◌∙◌, ap, subst, arith, IsTrue, append_assoc, length-append}
-use Rattle.std.specs.Prelude.{nat_le, ◌&&◌, is_some, is_none, slice_get, unwrap_or, option_map}
+use Rattle.std.proofs.Common.{◌≡◌, ⊎_elim, ℕ, ◌+◌, Bool, true, List, [], ◌∷◌, ◌++◌, length, Option, Some, None, refl, sym, ◌∙◌, ap, subst, arith, IsTrue, length-append}
+use Rattle.std.specs.Prelude.{nat_le, ◌&&◌, is_some, is_none, slice_get, option_map}
 use Rattle.std.specs.List.{list_all}
 use Rattle.std.proofs.lemmas.Bool.{and_from, le-leb}
-use Rattle.std.proofs.lemmas.List.{append-nil, map-append, take_at, length-map}
+use Rattle.std.proofs.lemmas.List.{append-nil, map-append, length-map}
 use Rattle.std.proofs.lemmas.Option.{slice_get_past}
 use Rattle.std.proofs.lemmas.List.Folds.{list_all-append}
-use Rattle.std.specs.FinMap.{get}
 use Rattle.std.specs.FinMap.Entries.{put, find}
 use Rattle.frs_types.specs.declared.record.Action.TheVariants as action
 use Rattle.frs_types.specs.declared.record.Record.{Record}
@@ -14,8 +13,8 @@ use Rattle.frs_types.specs.Records.{has_words}
 use Rattle.frs_types.specs.Maps.{Maps, Table, Change, place_cmp}
 use Rattle.frs_types.specs.Maps.Change.{Set}
 use Rattle.frs_types.specs.Lawful.{Held, plain}
+use Rattle.frs_disk.specs.Disk.{Image}
 use Rattle.frs_frame.specs.Spelling.{spelling}
-use Rattle.frs_disk.specs.Disk.{Image, bytes_at}
 use Rattle.frs_history.specs.declared.command.Command.TheVariants as command
 use Rattle.frs_history.specs.declared.command.Line.{Line}
 use Rattle.frs_history.specs.declared.event.Ack.{Ack}
@@ -24,15 +23,17 @@ use Rattle.frs_history.specs.declared.event.Reply.{Reply}
 use Rattle.frs_history.specs.declared.event.Reply.TheVariants as reply
 use Rattle.frs_history.specs.Histories.{run, each_alone}
 use Rattle.frs_history.specs.Machine.{Changes, start, value_or_none}
+use Rattle.frs_engine.specs.declared.journal.Journal.{Journal}
 use Rattle.frs_engine.specs.declared.session.Run.{Run}
 use Rattle.frs_engine.specs.Entries.{table}
-use Rattle.frs_engine.specs.Log.{IsStage, IsAtGate, chunk_of}
-use Rattle.frs_engine.specs.Promise.{commits_of_run, owed_acks, puts, puts_by, Tells, ShowsPuts, Completes, is_whole_in}
-use Rattle.frs_engine.specs.Session.{drawn, drawn_put, front, state_at, answer, IsLog, IsAnswered, IsReady, HasOneMark, IsToldAlike, IsFresh, commits_so_far, Extends, as_files, KnownAcked, KnownAll}
+use Rattle.frs_engine.specs.Journal.{LeftNoFile, HoldsOneMore}
+use Rattle.frs_engine.specs.Promise.{commits_of_run, owed_acks, puts, puts_by, Tells, Shows, ShowsPuts, ShowsAcked, ShowsAll, Completes, is_whole_in}
+use Rattle.frs_engine.specs.Session.{drawn, drawn_put, state_at, answer, IsLog, IsAnswered, IsReady, IsToldAlike, IsFresh, commits_so_far, Extends}
+use Rattle.frs_writer.specs.Writing.{HoldsAll}
+use Rattle.std.specs.FinMap.{entries}
 use Rattle.frs_engine.proofs.Answering.{put_run, put_commits, put_owed, get_run, get_commits, get_owed, acks_within}
-use Rattle.frs_engine.proofs.Logging.{log_start, front-next, puts-push, gate_after, log-put, log-mark, put_long, mark_long}
-use Rattle.frs_engine.proofs.Showing.{stage_shows}
-use Rattle.frs_engine.proofs.Stages.{shut}
+use Rattle.frs_engine.proofs.Logging.{log_start, puts-push, log-put, log-mark}
+use Rattle.frs_engine.proofs.Showing.{records_show}
 use Rattle.frs_engine.proofs.Tables.{find-plain, plain-put}
 
 -- ---- what a run that is ready says
@@ -45,95 +46,89 @@ answered_tells rs r a = record {
   but_last = omega arith;
 }
 
-pub acked_stage : (rs : List Record) (r : Run) (commits more : List Changes) (file : Option (List ℕ)) → IsAnswered rs r → commits ≡ each_alone (puts rs) ++ more → IsStage (front rs) file → KnownAcked commits r.acks.items file
-acked_stage rs r commits more file a is stage =
-    (length rs, length (puts rs), a.within, omega (arith, a.counted), stage_shows rs (table r.entries.items) r.next r.gate_at a.log a.short file commits more is stage)
+acked_records : (rs : List Record) (r : Run) (commits more : List Changes) (c : Image) → IsAnswered rs r → commits ≡ each_alone (puts rs) ++ more → HoldsAll (entries c) rs → ShowsAcked commits r.acks.items c
+acked_records rs r commits more c a is holds =
+    (length rs, length (puts rs), a.within, omega (arith, a.counted), records_show c rs (table r.entries.items) (length rs + 1) commits more a.log is holds)
 
-module _ {D : Type 0} (tells : D → Bool) (reads : D → Image) (may_leave : D → Image → Type 0) (disk : D) (r : Run) (ready : IsReady tells reads may_leave disk r) (told : IsTrue (tells disk)) where
-  ready_bytes : bytes_at (reads disk) 1 ≡ front ready.records ++ 0 ∷ []
-  ready_bytes = ap (λ (o : Option (List ℕ)). unwrap_or o []) (ready.written told)
+module _ {D : Type 0} (tells : D → Bool) (reads : D → Image) (may_leave : D → Image → Type 0) (j : Journal D) (r : Run) (ready : IsReady tells reads may_leave j r) where
+  -- the records are as many as were drawn
+  pub ready_drawn : length ready.records ≡ length j.drawer.drawn
+  ready_drawn = sym (ap length ready.written.drawn.drawn ∙ length-map ready.records spelling)
 
-  pub ready_before : take r.gate_at (bytes_at (reads disk) 1) ≡ front ready.records
-  ready_before = ap (take r.gate_at) ready_bytes ∙ take_at (front ready.records) (0 ∷ []) r.gate_at ready.answered.log.gate
+  module _ (told : IsTrue (tells j.writer.disk)) (none : LeftNoFile may_leave j.writer.opened) (c : Image) (left : may_leave j.writer.disk c) where
+    ready_holds : HoldsAll (entries c) ready.records
+    ready_holds = ready.written.written.holds told none ready.answered.log.placed c left
 
-  pub ready_gate : IsAtGate r.gate_at (get (reads disk) 1)
-  ready_gate =
-      let rs : List Record = ready.records in
-      let before : take r.gate_at (front rs ++ 0 ∷ []) ≡ front rs = take_at (front rs) (0 ∷ []) r.gate_at ready.answered.log.gate in
-      subst (IsAtGate r.gate_at) (sym (ready.written told))
-      (ap (λ (l : List ℕ). l ++ 0 ∷ []) (sym before), length-append (front rs) (0 ∷ []) ∙ omega (arith, ready.answered.log.gate))
+    pub ready_now : ShowsAcked (commits_so_far r) r.acks.items c
+    ready_now = acked_records ready.records r (commits_so_far r) [] c ready.answered (ready.answered.commits ∙ sym (append-nil (each_alone (puts ready.records)))) ready_holds
 
-  ready_stage : (c : Image) → may_leave disk c → IsStage (front ready.records) (get c 1)
-  ready_stage c left = subst (IsStage (front ready.records)) (sym (ready.durable told c left ∙ ready.written told)) (shut (front ready.records) 0 [] (omega arith))
-
-  pub ready_now : (c : Image) → may_leave disk c → KnownAcked (commits_so_far r) r.acks.items (get c 1)
-  ready_now c left = acked_stage ready.records r (commits_so_far r) [] (get c 1) ready.answered (ready.answered.commits ∙ sym (append-nil (each_alone (puts ready.records)))) (ready_stage c left)
+    pub ready_all : length j.drawer.drawn ≡ length r.acks.items + 2 → ShowsAll (commits_so_far r) c
+    ready_all marks =
+        let rs : List Record = ready.records in
+        let a = ready.answered in
+        let all : length (puts rs) ≡ length (commits_so_far r) = sym (ap length a.commits ∙ length-map (puts rs) (λ (x : Change (List ℕ)). x ∷ [])) in
+        let count : length rs ≡ length (commits_so_far r) + 2 = omega (arith, ready_drawn, a.counted, all, marks) in
+        subst (λ (n : ℕ). ShowsPuts (entries c) (commits_so_far r) n (length (commits_so_far r))) count
+        (subst (ShowsPuts (entries c) (commits_so_far r) (length rs)) all
+        (records_show c rs (table r.entries.items) (length rs + 1) (commits_so_far r) [] a.log (a.commits ∙ sym (append-nil (each_alone (puts rs)))) ready_holds))
 
 -- ---- one more record, of either kind
 
-pub body_long : (n : ℕ) (bytes body : List ℕ) → body ≡ chunk_of n bytes ++ 0 ∷ [] → length body ≡ length bytes + 17
-body_long n bytes body is = ap length is ∙ length-append (chunk_of n bytes) (0 ∷ []) ∙ omega (arith, gate_after n bytes)
+module _ (rs : List Record) (old : Run) (a : IsAnswered rs old) (r : Record) (u : Table Held) (log : IsLog (rs ++ r ∷ []) u (length rs + 1 + 1)) (commits more : List Changes)
+    (before : commits ≡ each_alone (puts rs) ++ more) (after : commits ≡ each_alone (puts (rs ++ r ∷ []))) where
+  pub acked_next : (c : Image) → HoldsOneMore rs r c → ShowsAcked commits old.acks.items c
+  acked_next c holds = ⊎_elim
+      (λ here. acked_records rs old commits more c a before here)
+      (λ next. (
+        length (rs ++ r ∷ []),
+        length (puts (rs ++ r ∷ [])),
+        acks_within (length rs) (length (rs ++ r ∷ [])) old.acks.items (omega (arith, length-append rs (r ∷ []))) a.within,
+        omega (arith, a.counted, ap length (puts-push rs r), length-append (puts rs) (puts_by r.action)),
+        records_show c (rs ++ r ∷ []) u (length rs + 1 + 1) commits [] log (after ∙ sym (append-nil (each_alone (puts (rs ++ r ∷ []))))) next,
+      ))
+      holds
 
-module _ (rs : List Record) (old : Run) (a : IsAnswered rs old) (r : Record) (body : List ℕ) (is : body ≡ chunk_of old.next (spelling r) ++ 0 ∷ []) where
-  pub whole : front rs ++ 1 ∷ body ≡ front (rs ++ r ∷ []) ++ 0 ∷ []
-  whole =
-      ap (λ (b : List ℕ). front rs ++ 1 ∷ b) is
-      ∙ sym (append_assoc (front rs) (1 ∷ chunk_of old.next (spelling r)) (0 ∷ []))
-      ∙ ap (λ (l : List ℕ). l ++ 0 ∷ []) (sym (front-next rs (table old.entries.items) old.next old.gate_at a.log r))
+log_at : (rs : List Record) (t u : Table Held) (n m : ℕ) → t ≡ u → n ≡ m → IsLog rs t n → IsLog rs u m
+log_at rs t u n m tu nm log = subst (λ (k : ℕ). IsLog rs u k) nm (subst (λ (x : Table Held). IsLog rs x n) tu log)
 
-  module _ (u : Table Held) (gate_at : ℕ) (log : IsLog (rs ++ r ∷ []) u (old.next + 1) gate_at) (room : old.next < 2 ^ 40) (commits more : List Changes) (before : commits ≡ each_alone (puts rs) ++ more) (after : commits ≡ each_alone (puts (rs ++ r ∷ []))) where
-    pub acked_next : (file : Option (List ℕ)) → IsStage (front rs) file ⊎ (file ≡ Some (front rs ++ 1 ∷ body)) → KnownAcked commits old.acks.items file
-    acked_next file stage = ⊎_elim
-        (λ here. acked_stage rs old commits more file a before here)
-        (λ next.
-        let stage : IsStage (front (rs ++ r ∷ [])) file = subst (IsStage (front (rs ++ r ∷ []))) (sym (next ∙ ap Some whole)) (shut (front (rs ++ r ∷ [])) 0 [] (omega arith)) in
-        let shows : ShowsPuts (as_files file) commits (length (rs ++ r ∷ [])) (length (puts (rs ++ r ∷ []))) =
-        stage_shows (rs ++ r ∷ []) u (old.next + 1) gate_at log (omega arith) file commits [] (after ∙ sym (append-nil (each_alone (puts (rs ++ r ∷ []))))) stage in (
-          length (rs ++ r ∷ []),
-          length (puts (rs ++ r ∷ [])),
-          acks_within (length rs) (length (rs ++ r ∷ [])) old.acks.items (omega (arith, length-append rs (r ∷ []))) a.within,
-          omega (arith, a.counted, ap length (puts-push rs r), length-append (puts rs) (puts_by r.action)),
-          shows,
-        ))
-        stage
-
-log_at : (rs : List Record) (t u : Table Held) (n m g h : ℕ) → t ≡ u → n ≡ m → g ≡ h → IsLog rs t n g → IsLog rs u m h
-log_at rs t u n m g h tu nm gh log =
-    subst (IsLog rs u m) gh (subst (λ (k : ℕ). IsLog rs u k g) nm (subst (λ (x : Table Held). IsLog rs x n g) tu log))
+one_longer : (rs : List Record) (r : Record) → length rs + 1 + 1 ≡ length (rs ++ r ∷ []) + 1
+one_longer rs r = omega (arith, length-append rs (r ∷ []))
 
 -- ---- a mark
 
-module _ (rs : List Record) (old : Run) (a : IsAnswered rs old) where
-  mark_puts : puts (rs ++ drawn (table old.entries.items) old.next 0 action.Mark ∷ []) ≡ puts rs
-  mark_puts = puts-push rs (drawn (table old.entries.items) old.next 0 action.Mark) ∙ append-nil (puts rs)
+module _ (rs : List Record) (run : Run) (a : IsAnswered rs run) (n : ℕ) (next : n ≡ length rs + 1) where
+  mark : Record
+  mark = drawn (table run.entries.items) n 0 action.Mark
 
-  pub mark_before : commits_so_far old ≡ each_alone (puts rs) ++ []
+  mark_puts : puts (rs ++ drawn (table run.entries.items) n 0 action.Mark ∷ []) ≡ puts rs
+  mark_puts = puts-push rs (drawn (table run.entries.items) n 0 action.Mark) ∙ append-nil (puts rs)
+
+  pub mark_before : commits_so_far run ≡ each_alone (puts rs) ++ []
   mark_before = a.commits ∙ sym (append-nil (each_alone (puts rs)))
 
-  pub mark_after : commits_so_far old ≡ each_alone (puts (rs ++ drawn (table old.entries.items) old.next 0 action.Mark ∷ []))
+  pub mark_after : commits_so_far run ≡ each_alone (puts (rs ++ drawn (table run.entries.items) n 0 action.Mark ∷ []))
   mark_after = a.commits ∙ ap each_alone (sym mark_puts)
 
-  pub mark_log : IsLog (rs ++ drawn (table old.entries.items) old.next 0 action.Mark ∷ []) (table old.entries.items) (old.next + 1) (old.gate_at + (length (spelling (drawn (table old.entries.items) old.next 0 action.Mark)) + 17))
-  mark_log = log-mark rs (table old.entries.items) old.next old.gate_at a.log
+  pub mark_log : IsLog (rs ++ drawn (table run.entries.items) n 0 action.Mark ∷ []) (table run.entries.items) (length rs + 1 + 1)
+  mark_log =
+      subst (λ (k : ℕ). IsLog (rs ++ drawn (table run.entries.items) k 0 action.Mark ∷ []) (table run.entries.items) (length rs + 1 + 1)) (sym next)
+      (log-mark rs (table run.entries.items) (length rs + 1) a.log)
 
-  pub mark_answered : (g : ℕ) → g ≡ old.gate_at + (length (spelling (drawn (table old.entries.items) old.next 0 action.Mark)) + 17) → old.next < 2 ^ 40
-      → IsAnswered (rs ++ drawn (table old.entries.items) old.next 0 action.Mark ∷ []) (record old { gate_at = g; next = old.next + 1 })
-  mark_answered g is room =
-      let r : Record = drawn (table old.entries.items) old.next 0 action.Mark in
+  pub mark_answered : IsAnswered (rs ++ drawn (table run.entries.items) n 0 action.Mark ∷ []) run
+  mark_answered =
+      let r : Record = drawn (table run.entries.items) n 0 action.Mark in
       record {
-        log = subst (IsLog (rs ++ r ∷ []) (table old.entries.items) (old.next + 1)) (sym is) mark_log;
+        log = log_at (rs ++ r ∷ []) _ _ _ _ refl (one_longer rs r) mark_log;
         machine = a.machine;
         commits = mark_after;
         acks = a.acks;
-        within = acks_within (length rs) (length (rs ++ r ∷ [])) old.acks.items (omega (arith, length-append rs (r ∷ []))) a.within;
+        within = acks_within (length rs) (length (rs ++ r ∷ [])) run.acks.items (omega (arith, length-append rs (r ∷ []))) a.within;
         counted = a.counted ∙ ap length (sym mark_puts);
-        size = omega (arith, is, a.size, mark_long (table old.entries.items) old.next);
-        short = omega arith;
       }
 
 -- ---- a put
 
-module _ (rs : List Record) (old new : Run) (a : IsAnswered rs old) (n : ℕ) (id key value : List ℕ) (next : slice_get old.script.now old.done ≡ Some (record { number = n; command = command.Put id key value }))
+module _ (rs : List Record) (old new : Run) (a : IsAnswered rs old) (lsn : ℕ) (drawn_next : lsn ≡ length rs + 1) (n : ℕ) (id key value : List ℕ) (next : slice_get old.script.now old.done ≡ Some (record { number = n; command = command.Put id key value }))
     (script : new.script ≡ old.script) (events : new.events.items ≡ old.events.items ++ answer n reply.Done ∷ []) where
   pub put_machine : run (new.script.now ∷ []) (start [] 0 1) new.events.items ≡ Some (state_at (put place_cmp (id, key) value (plain (table old.entries.items))) (old.done + 1))
   put_machine =
@@ -153,57 +148,56 @@ module _ (rs : List Record) (old new : Run) (a : IsAnswered rs old) (n : ℕ) (i
   pub put_before : commits_so_far new ≡ each_alone (puts rs) ++ (Set id key value ∷ []) ∷ []
   put_before = put_commits_so_far ∙ ap (λ (cs : List Changes). cs ++ (Set id key value ∷ []) ∷ []) a.commits
 
-  puts_next : puts (rs ++ drawn_put (table old.entries.items) old.next id key value ∷ []) ≡ puts rs ++ Set id key value ∷ []
-  puts_next = puts-push rs (drawn_put (table old.entries.items) old.next id key value)
+  puts_next : puts (rs ++ drawn_put (table old.entries.items) lsn id key value ∷ []) ≡ puts rs ++ Set id key value ∷ []
+  puts_next = puts-push rs (drawn_put (table old.entries.items) lsn id key value)
 
-  pub put_after : commits_so_far new ≡ each_alone (puts (rs ++ drawn_put (table old.entries.items) old.next id key value ∷ []))
+  pub put_after : commits_so_far new ≡ each_alone (puts (rs ++ drawn_put (table old.entries.items) lsn id key value ∷ []))
   put_after = put_before ∙ sym (map-append (λ (c : Change (List ℕ)). c ∷ []) (puts rs) (Set id key value ∷ [])) ∙ ap each_alone (sym puts_next)
 
-  put_acks : HasOneMark old → owed_acks new.script.now new.events.items ≡ old.acks.items ++ record { client = 1; line = n; lsn = old.next } ∷ []
+  put_acks : length rs ≡ length old.acks.items + 1 → owed_acks new.script.now new.events.items ≡ old.acks.items ++ record { client = 1; line = n; lsn = lsn } ∷ []
   put_acks marks =
       ap (λ (s : List Line). owed_acks s new.events.items) (ap (λ s. s.now) script)
       ∙ ap (owed_acks old.script.now) events
       ∙ put_owed old.script.now old.events.items (plain (table old.entries.items)) old.done n a.machine id key value next
       ∙ ap (λ (acks : List Ack). acks ++ record { client = 1; line = n; lsn = 2 + length acks } ∷ []) (sym a.acks)
-      ∙ ap (λ (k : ℕ). old.acks.items ++ record { client = 1; line = n; lsn = k } ∷ []) (omega (arith, marks))
+      ∙ ap (λ (k : ℕ). old.acks.items ++ record { client = 1; line = n; lsn = k } ∷ []) (omega (arith, marks, drawn_next))
 
   -- the put that isn't durable yet
-  pub put_tells : HasOneMark old → new.acks.items ≡ old.acks.items → Tells new.script.now new.events.items new.acks.items
+  pub put_tells : length rs ≡ length old.acks.items + 1 → new.acks.items ≡ old.acks.items → Tells new.script.now new.events.items new.acks.items
   put_tells marks acks = record {
     legal = ap is_some put_machine;
-    rest = record { client = 1; line = n; lsn = old.next } ∷ [];
-    told = ap (λ (l : List Ack). l ++ record { client = 1; line = n; lsn = old.next } ∷ []) acks ∙ sym (put_acks marks);
+    rest = record { client = 1; line = n; lsn = lsn } ∷ [];
+    told = ap (λ (l : List Ack). l ++ record { client = 1; line = n; lsn = lsn } ∷ []) acks ∙ sym (put_acks marks);
     but_last = omega arith;
   }
 
-  pub put_log : has_words (action.Put id key value) ≡ true → IsLog (rs ++ drawn_put (table old.entries.items) old.next id key value ∷ []) (put place_cmp (id, key) (record { value = value; lsn = old.next }) (table old.entries.items)) (old.next + 1)
-      (old.gate_at + (length (spelling (drawn_put (table old.entries.items) old.next id key value)) + 17))
-  put_log words = log-put rs (table old.entries.items) old.next old.gate_at a.log id key value words
+  pub put_log : has_words (action.Put id key value) ≡ true
+      → IsLog (rs ++ drawn_put (table old.entries.items) lsn id key value ∷ []) (put place_cmp (id, key) (record { value = value; lsn = lsn }) (table old.entries.items)) (length rs + 1 + 1)
+  put_log words =
+      subst (λ (k : ℕ). IsLog (rs ++ drawn_put (table old.entries.items) k id key value ∷ []) (put place_cmp (id, key) (record { value = value; lsn = k }) (table old.entries.items)) (length rs + 1 + 1)) (sym drawn_next)
+      (log-put rs (table old.entries.items) (length rs + 1) a.log id key value words)
 
-  pub put_answered : HasOneMark old → has_words (action.Put id key value) ≡ true → old.next < 2 ^ 40
-      → table new.entries.items ≡ put place_cmp (id, key) (record { value = value; lsn = old.next }) (table old.entries.items)
-      → new.acks.items ≡ old.acks.items ++ record { client = 1; line = n; lsn = old.next } ∷ []
-      → new.done ≡ old.done + 1 → new.next ≡ old.next + 1
-      → new.gate_at ≡ old.gate_at + (length (spelling (drawn_put (table old.entries.items) old.next id key value)) + 17)
-      → IsAnswered (rs ++ drawn_put (table old.entries.items) old.next id key value ∷ []) new
-  put_answered marks words room entries acks done next_is gate =
-      let r : Record = drawn_put (table old.entries.items) old.next id key value in
-      let held : Held = record { value = value; lsn = old.next } in
+  pub put_answered : length rs ≡ length old.acks.items + 1 → has_words (action.Put id key value) ≡ true
+      → table new.entries.items ≡ put place_cmp (id, key) (record { value = value; lsn = lsn }) (table old.entries.items)
+      → new.acks.items ≡ old.acks.items ++ record { client = 1; line = n; lsn = lsn } ∷ []
+      → new.done ≡ old.done + 1
+      → IsAnswered (rs ++ drawn_put (table old.entries.items) lsn id key value ∷ []) new
+  put_answered marks words entries_are acks done =
+      let r : Record = drawn_put (table old.entries.items) lsn id key value in
+      let held : Held = record { value = value; lsn = lsn } in
       let long : length (rs ++ r ∷ []) ≡ length rs + 1 = length-append rs (r ∷ []) in
-      let last : nat_le old.next (length (rs ++ r ∷ [])) ≡ true = le-leb old.next (length (rs ++ r ∷ [])) (omega (arith, long, a.log.count)) in
+      let last : nat_le lsn (length (rs ++ r ∷ [])) ≡ true = le-leb lsn (length (rs ++ r ∷ [])) (omega (arith, long, drawn_next)) in
       record {
-        log = log_at (rs ++ r ∷ []) _ (table new.entries.items) _ new.next _ new.gate_at (sym entries) (sym next_is) (sym gate) (put_log words);
+        log = log_at (rs ++ r ∷ []) _ (table new.entries.items) _ _ (sym entries_are) (one_longer rs r) (put_log words);
         machine = put_machine ∙ ap (λ (m : Maps). Some (state_at m (old.done + 1))) (sym (plain-put (id, key) held (table old.entries.items)))
-            ∙ ap (λ (t : Table Held). Some (state_at (plain t) (old.done + 1))) (sym entries)
+            ∙ ap (λ (t : Table Held). Some (state_at (plain t) (old.done + 1))) (sym entries_are)
             ∙ ap (λ (k : ℕ). Some (state_at (plain (table new.entries.items)) k)) (sym done);
         commits = put_after;
         acks = acks ∙ sym (put_acks marks);
         within = ap (list_all (λ (x : Ack). nat_le x.lsn (length (rs ++ r ∷ [])))) acks
-            ∙ list_all-append (λ (x : Ack). nat_le x.lsn (length (rs ++ r ∷ []))) old.acks.items (record { client = 1; line = n; lsn = old.next } ∷ [])
+            ∙ list_all-append (λ (x : Ack). nat_le x.lsn (length (rs ++ r ∷ []))) old.acks.items (record { client = 1; line = n; lsn = lsn } ∷ [])
             ∙ and_from _ _ (acks_within (length rs) (length (rs ++ r ∷ [])) old.acks.items (omega (arith, long)) a.within) (and_from _ _ last refl);
-        counted = ap length acks ∙ length-append old.acks.items (record { client = 1; line = n; lsn = old.next } ∷ []) ∙ omega (arith, a.counted, ap length puts_next, length-append (puts rs) (Set id key value ∷ []));
-        size = omega (arith, gate, next_is, a.size, put_long (table old.entries.items) old.next id key value words);
-        short = omega arith;
+        counted = ap length acks ∙ length-append old.acks.items (record { client = 1; line = n; lsn = lsn } ∷ []) ∙ omega (arith, a.counted, ap length puts_next, length-append (puts rs) (Set id key value ∷ []));
       }
 
 -- ---- a get
@@ -213,13 +207,13 @@ module _ (rs : List Record) (old new : Run) (a : IsAnswered rs old) (n : ℕ) (i
   get_events : new.events.items ≡ old.events.items ++ answer n (value_or_none (find place_cmp (id, key) (plain (table old.entries.items)))) ∷ []
   get_events = events ∙ ap (λ (x : Reply). old.events.items ++ answer n x ∷ []) (says ∙ ap value_or_none (sym (find-plain (id, key) (table old.entries.items))))
 
-  pub get_answered : new.entries ≡ old.entries → new.acks ≡ old.acks → new.done ≡ old.done + 1 → new.next ≡ old.next → new.gate_at ≡ old.gate_at → IsAnswered rs new
-  get_answered entries acks done next_is gate =
-      let tables : table old.entries.items ≡ table new.entries.items = ap (λ e. table e.items) (sym entries) in
+  pub get_answered : new.entries ≡ old.entries → new.acks ≡ old.acks → new.done ≡ old.done + 1 → IsAnswered rs new
+  get_answered entries_are acks done =
+      let tables : table old.entries.items ≡ table new.entries.items = ap (λ e. table e.items) (sym entries_are) in
       let lines : new.script.now ≡ old.script.now = ap (λ s. s.now) script in
       let told : new.acks.items ≡ old.acks.items = ap (λ v. v.items) acks in
       record {
-        log = log_at rs _ (table new.entries.items) _ new.next _ new.gate_at tables (sym next_is) (sym gate) a.log;
+        log = log_at rs _ (table new.entries.items) _ _ tables refl a.log;
         machine = ap (λ (s : List Line). run (s ∷ []) (start [] 0 1) new.events.items) lines
             ∙ ap (run (old.script.now ∷ []) (start [] 0 1)) get_events
             ∙ get_run old.script.now old.events.items (plain (table old.entries.items)) old.done n a.machine id key next
@@ -234,8 +228,6 @@ module _ (rs : List Record) (old new : Run) (a : IsAnswered rs old) (n : ℕ) (i
             ∙ get_owed old.script.now old.events.items (plain (table old.entries.items)) old.done n a.machine id key next);
         within = ap (list_all (λ (x : Ack). nat_le x.lsn (length rs))) told ∙ a.within;
         counted = ap length told ∙ a.counted;
-        size = omega (arith, gate, next_is, a.size);
-        short = omega (arith, next_is, a.short);
       }
 
 -- ---- what stays where nothing is answered
@@ -257,15 +249,13 @@ fresh_commits r f = ap (commits_of_run r.script.now) f.events
 
 pub fresh_answered : (r : Run) → IsFresh r → IsAnswered [] r
 fresh_answered r f = record {
-  log = log_at [] [] (table r.entries.items) 1 r.next 22 r.gate_at (ap table (sym f.entries)) (sym f.next) (sym f.gate_at) log_start;
+  log = log_at [] [] (table r.entries.items) 1 1 (ap table (sym f.entries)) refl log_start;
   machine = ap (run (r.script.now ∷ []) (start [] 0 1)) f.events ∙ ap (λ es. Some (state_at (plain (table es)) 0)) (sym f.entries)
       ∙ ap (λ (k : ℕ). Some (state_at (plain (table r.entries.items)) k)) (sym f.done);
   commits = fresh_commits r f;
   acks = f.acks ∙ sym (ap (owed_acks r.script.now) f.events);
   within = ap (list_all (λ (x : Ack). nat_le x.lsn 0)) f.acks;
   counted = ap length f.acks;
-  size = omega (arith, f.gate_at, f.next);
-  short = omega (arith, f.next);
 }
 
 pub fresh_tells : (r : Run) → IsFresh r → Tells r.script.now r.events.items r.acks.items
@@ -279,14 +269,6 @@ answered_completes rs r a done =
       told = a.acks;
     }
 
-module _ {D : Type 0} (tells : D → Bool) (reads : D → Image) (may_leave : D → Image → Type 0) (disk : D) (r : Run) (ready : IsReady tells reads may_leave disk r) (told : IsTrue (tells disk)) where
-  pub ready_all : r.next ≡ length r.acks.items + 3 → (c : Image) → may_leave disk c → KnownAll (commits_so_far r) (get c 1)
-  ready_all marks c left =
-      let rs : List Record = ready.records in
-      let a = ready.answered in
-      let all : length (puts rs) ≡ length (commits_so_far r) = sym (ap length a.commits ∙ length-map (puts rs) (λ (x : Change (List ℕ)). x ∷ [])) in
-      let count : length rs ≡ length (commits_so_far r) + 2 = omega (arith, a.log.count, a.counted, all, marks) in
-      subst (λ (n : ℕ). ShowsPuts (as_files (get c 1)) (commits_so_far r) n (length (commits_so_far r))) count
-      (subst (ShowsPuts (as_files (get c 1)) (commits_so_far r) (length rs)) all
-      (stage_shows rs (table r.entries.items) r.next r.gate_at a.log a.short (get c 1) (commits_so_far r) [] (a.commits ∙ sym (append-nil (each_alone (puts rs))))
-      (ready_stage tells reads may_leave disk r ready told c left)))
+-- without a record no put is shown
+pub none_shown : (c : Image) (commits : List Changes) → HoldsAll (entries c) [] → Shows commits c
+none_shown c commits holds = (0, 0, records_show c [] [] 1 commits commits log_start refl holds)

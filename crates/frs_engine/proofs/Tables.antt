@@ -1,8 +1,8 @@
 -- Tables of entries, with their LSNs and without, and the least LSN.
 use Rattle.std.proofs.Common.{◌≡◌, ℕ, ◌+◌, ◌<◌, ◌≤◌, Bool, true, false, cond, List, [], ◌∷◌, ◌++◌, Some, refl, ap, arith, min}
-use Rattle.std.specs.Prelude.{map, fold, nat_lt, ◌&&◌, option_map, unwrap_or}
+use Rattle.std.specs.Prelude.{map, fold, nat_lt, nat_le, ◌&&◌, option_map, unwrap_or}
 use Rattle.std.specs.List.{list_all}
-use Rattle.std.proofs.lemmas.Bool.{and_parts, and_from, ltb-true, lt-ltb}
+use Rattle.std.proofs.lemmas.Bool.{and_parts, and_from, ltb-true, lt-ltb, leb-true, le-leb}
 use Rattle.std.specs.declared.cmp.Ordering.TheVariants.{Less, Equal, Greater}
 use Rattle.std.specs.Ordering.{eq_by_cmp}
 use Rattle.std.specs.FinMap.Entries.{put, find, by_order}
@@ -87,3 +87,28 @@ least-pos (e ∷ t) n m lt is =
     let here = and_parts (nat_lt 0 e.1.lsn) (nat_lt e.1.lsn m) both.0 in
     let pos : 0 < e.1.lsn = ltb-true 0 e.1.lsn here.0 in
     least-pos t (min n e.1.lsn) m (omega arith) both.1
+
+-- the LSNs aren't below n
+abbrev pub lsns_from : ℕ → Table Held → Bool
+lsns_from n t = list_all (λ (e : Place × Held). nat_le n e.1.lsn) t
+
+pub least-each : (t : Table Held) (n : ℕ) → lsns_from (fold min n (map (λ (e : Place × Held). e.1.lsn) t ++ [])) t ≡ true
+least-each [] n = refl
+least-each (e ∷ t) n = and_from _ _ (le-leb _ e.1.lsn (omega (arith, least-le t (min n e.1.lsn)))) (least-each t (min n e.1.lsn))
+
+pub least-ge : (t : Table Held) (n m : ℕ) → m ≤ n → lsns_from m t ≡ true → m ≤ fold min n (map (λ (e : Place × Held). e.1.lsn) t ++ [])
+least-ge [] n m le is = le
+least-ge (e ∷ t) n m le is =
+    let both = and_parts (nat_le m e.1.lsn) (lsns_from m t) is in
+    let here : m ≤ e.1.lsn = leb-true m e.1.lsn both.0 in
+    least-ge t (min n e.1.lsn) m (omega arith) both.1
+
+pub from-put : (p : Place) (h : Held) (n : ℕ) (t : Table Held) → n ≤ h.lsn → lsns_from n t ≡ true → lsns_from n (put place_cmp p h t) ≡ true
+from-put p h n [] le is = and_from _ _ (le-leb n h.lsn le) refl
+from-put p h n (e ∷ t) le is =
+    let both = and_parts (nat_le n e.1.lsn) (lsns_from n t) is in
+    elim (place_cmp p e.0) as (λ o. lsns_from n (by_order o ((p, h) ∷ e ∷ t) ((e.0, h) ∷ t) (e ∷ put place_cmp p h t)) ≡ true) [
+      | Less ↦ and_from _ _ (le-leb n h.lsn le) is
+      | Equal ↦ and_from _ _ (le-leb n h.lsn le) both.1
+      | Greater ↦ and_from _ _ both.0 (from-put p h n t le both.1)
+    ]

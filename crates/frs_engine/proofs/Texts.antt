@@ -1,33 +1,24 @@
 -- What a run prints is its transcript with a last line, or that line alone, and what a sink took of it.
-use Rattle.std.proofs.Common.{◌≡◌, ◌∙◌, ap, sym, refl, List, [], ◌∷◌, ◌++◌, append_assoc}
+use Rattle.std.proofs.Common.{◌≡◌, ◌∙◌, ap, sym, true, false, Bool, cond, List, [], ◌∷◌, ◌++◌, append_assoc}
 use Rattle.std.specs.Prelude.{flat_map, Result, Ok, Err, OnOk}
 use Rattle.frs_history.specs.declared.command.Line.{Line}
 use Rattle.frs_history.specs.declared.event.Ack.{Ack}
 use Rattle.frs_history.specs.declared.event.Event.{Event}
 use Rattle.frs_disk.specs.Outside.{AddsPartOf}
-use Rattle.frs_text.specs.Text.{Text, event_line, ack_line}
+use Rattle.frs_text.specs.Text.{Text, event_line, ack_line, transcript}
 use Rattle.frs_engine.specs.declared.report.Ending.{Ending}
-use Rattle.frs_engine.specs.declared.report.Ending.TheVariants.{Closed, Disk, Unread, Memory, Later}
-use Rattle.frs_engine.specs.Endings.{status_of, line_of, IsAlone}
-use Rattle.frs_engine.specs.Runs.{text_of, Prints, PrintsAll}
+use Rattle.frs_engine.specs.Endings.{line_of, has_transcript, text_of}
+use Rattle.frs_engine.specs.Runs.{Prints, PrintsAll}
 
-pub alone_text : (e : Ending) (script : List Line) (events : List Event) (acks : List Ack) → IsAlone e → text_of (status_of e) script events acks ≡ line_of e
-alone_text Unread script events acks alone = refl
-alone_text Later script events acks alone = refl
-alone_text Closed script events acks alone = absurd alone
-alone_text Disk script events acks alone = absurd alone
-alone_text Memory script events acks alone = absurd alone
+pub alone_text : (e : Ending) (script : List Line) (events : List Event) (acks : List Ack) → has_transcript e ≡ false → text_of e script events acks ≡ line_of e
+alone_text e script events acks alone = ap (λ (b : Bool). cond b (transcript (script ∷ []) events acks (line_of e)) (line_of e)) alone
 
 -- the lines of events and acknowledgements
 abbrev pub said : List Line → List Event → List Ack → Text
 said script events acks = flat_map (event_line (script ∷ [])) events ++ flat_map ack_line acks
 
-pub run_text : (e : Ending) (script : List Line) (events : List Event) (acks : List Ack) → (IsAlone e → ⊥) → text_of (status_of e) script events acks ≡ said script events acks ++ line_of e
-run_text Closed script events acks more = refl
-run_text Disk script events acks more = refl
-run_text Memory script events acks more = refl
-run_text Unread script events acks more = absurd (more tt)
-run_text Later script events acks more = absurd (more tt)
+pub run_text : (e : Ending) (script : List Line) (events : List Event) (acks : List Ack) → has_transcript e ≡ true → text_of e script events acks ≡ said script events acks ++ line_of e
+run_text e script events acks more = ap (λ (b : Bool). cond b (transcript (script ∷ []) events acks (line_of e)) (line_of e)) more
 
 -- ---- what a sink took
 

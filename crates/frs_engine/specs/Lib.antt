@@ -1,8 +1,8 @@
+pub mod Causes
 pub mod Endings
 pub mod Entries
-pub mod Log
-pub mod Plain
+pub mod Journal
+pub mod Looks
 pub mod Promise
-pub mod Reading
 pub mod Runs
 pub mod Session

@@ -1,5 +1,5 @@
 -- The promise of a run of one script of puts and gets on an empty store.
-use Rattle.std.specs.Prelude.{◌≡◌, ℕ, ◌+◌, ◌≤◌, Bool, true, false, not, ◌&&◌, ◌==◌, nat_le, List, [], ◌∷◌, ◌++◌, flat_map, length, Option, Some, None, IsTrue, is_none}
+use Rattle.std.specs.Prelude.{◌≡◌, ℕ, ◌+◌, ◌≤◌, Bool, true, false, not, ◌&&◌, nat_le, List, [], ◌∷◌, ◌++◌, flat_map, length, Option, Some, None, IsTrue, is_none}
 use Rattle.std.specs.List.{AllZip, list_all}
 use Rattle.std.specs.FinMap.{entries}
 use Rattle.frs_types.specs.declared.record.Action.{Action}
@@ -73,12 +73,10 @@ is_put_or_mark (action.Put id key value) = true
 is_put_or_mark action.Mark = true
 is_put_or_mark other = false
 
--- There is at most one file, which has the number 1. The open files are segments that follow each other from LSN 1 on. Their newest LSN is n,
--- their records are puts and marks, lawful from an empty store on, and their j put records, applied oldest first, are the maps after
--- the first j commits, of which there are so many. A half-made file shows no record.
+-- The open files are segments that follow each other from LSN 1 on. Their newest LSN is n, their records are puts and
+-- marks, lawful from an empty store on, and their j put records, applied oldest first, are the maps after the first j
+-- commits, of which there are so many. A half-made file shows no record.
 pub record ShowsPuts (files : List File) (commits : List Changes) (n j : ℕ) : Type 0 where
-  pub one : length files ≤ 1
-  pub number : IsTrue (list_all (λ (f : File). f.0 == 1) files)
   pub segments : List Segment
   pub each : AllZip IsSegment (open_files files) segments
   pub follow : IsTrue (follow_from 1 segments)

@@ -1,15 +1,14 @@
 -- A run of one script of puts and gets on its way: what it has written, answered and acknowledged so far.
-use Rattle.std.specs.Prelude.{◌≡◌, ℕ, ◌+◌, ◌*◌, ◌^◌, ◌<◌, ◌≤◌, Bool, ◌&&◌, nat_lt, nat_le, List, [], ◌∷◌, ◌++◌, map, length, Option, Some, None, IsTrue}
+use Rattle.std.specs.Prelude.{◌≡◌, ℕ, ◌+◌, ◌^◌, ◌<◌, ◌≤◌, Bool, ◌&&◌, nat_lt, nat_le, List, [], ◌∷◌, ◌++◌, length, Option, Some, None, IsTrue}
 use Rattle.std.specs.List.{list_all}
-use Rattle.std.specs.FinMap.{get}
 use Rattle.frs_types.specs.declared.record.Action.{Action}
 use Rattle.frs_types.specs.declared.record.Action.TheVariants as action
 use Rattle.frs_types.specs.declared.record.Record.{Record}
 use Rattle.frs_types.specs.Maps.{Place, Maps, Table}
+use Rattle.frs_types.specs.Records.{Placed, named_lowest}
 use Rattle.frs_types.specs.Lawful.{Held, Lawful, settled, state_after, lowest, named_at, plain}
 use Rattle.frs_disk.specs.declared.disk.Fault.{Fault}
-use Rattle.frs_disk.specs.declared.disk.Fault.TheVariants.{Failed, Memory}
-use Rattle.frs_disk.specs.Disk.{Image, IsSynced, Rose}
+use Rattle.frs_disk.specs.Disk.{Image}
 use Rattle.frs_history.specs.declared.event.Ack.{Ack}
 use Rattle.frs_history.specs.declared.event.Event.{Event}
 use Rattle.frs_history.specs.declared.event.Reply.{Reply}
@@ -18,10 +17,11 @@ use Rattle.frs_history.specs.Histories.{run, each_alone}
 use Rattle.frs_history.specs.Machine.{Changes, State, newcomer, start}
 use Rattle.frs_history.specs.Machine.Transaction.{Outside}
 use Rattle.frs_types.specs.Locks.{nobody}
-use Rattle.frs_segment.specs.Segments.{File, Segment, segment_spelling, are_chunks}
+use Rattle.frs_engine.specs.declared.journal.Journal.{Journal}
 use Rattle.frs_engine.specs.declared.session.Run.{Run}
 use Rattle.frs_engine.specs.Entries.{table}
-use Rattle.frs_engine.specs.Promise.{commits_of_run, owed_acks, puts, is_put_or_mark, ShowsPuts}
+use Rattle.frs_engine.specs.Journal.{IsWritten, FaultHasCause, log_of}
+use Rattle.frs_engine.specs.Promise.{commits_of_run, owed_acks, puts, is_put_or_mark}
 
 -- ---- the log
 
@@ -33,25 +33,15 @@ drawn entries next named what = record { tx = 0; lowest = lowest (settled entrie
 abbrev pub drawn_put : Table Held → ℕ → List ℕ → List ℕ → List ℕ → Record
 drawn_put entries next id key value = drawn entries next (named_at (settled entries next) 0 (id, key)) (action.Put id key value)
 
--- each record in a chunk of its own
-abbrev pub singles : List Record → List (List Record)
-singles rs = map (λ (r : Record). r ∷ []) rs
-
-abbrev pub segment_of : List Record → Segment
-segment_of rs = record { number = 1; first = 1; chunks = singles rs }
-
--- the bytes of segment 1 with these records
-abbrev pub front : List Record → List ℕ
-front rs = segment_spelling (segment_of rs)
-
--- The records are a lawful log from an empty store on, and these are its entries, its next LSN and where it ends.
-pub record IsLog (records : List Record) (entries : Table Held) (next gate_at : ℕ) : Type 0 where
+-- The records are a lawful log from an empty store on, and these are its entries and its next LSN. The lowest LSN that its
+-- records name never falls.
+pub record IsLog (records : List Record) (entries : Table Held) (next : ℕ) : Type 0 where
   pub lawful : Lawful [] 1 records
   pub kinds : IsTrue (list_all (λ (r : Record). is_put_or_mark r.action) records)
   pub state : state_after (settled [] 1) records ≡ settled entries next
   pub count : next ≡ length records + 1
-  pub chunks : IsTrue (are_chunks 1 (singles records))
-  pub gate : length (front records) ≡ gate_at
+  pub placed : Placed (log_of records)
+  pub named : named_lowest records ≤ lowest (settled entries next)
   pub lsns : IsTrue (list_all (λ (e : Place × Held). nat_lt 0 e.1.lsn && nat_lt e.1.lsn next) entries)
 
 -- ---- the history
@@ -68,39 +58,34 @@ commits_so_far r = commits_of_run r.script.now r.events.items
 
 -- The log and the history say the same: the entries are the maps, each put is a commit, and is acknowledged.
 pub record IsAnswered (records : List Record) (r : Run) : Type 0 where
-  pub log : IsLog records (table r.entries.items) r.next r.gate_at
+  pub log : IsLog records (table r.entries.items) (length records + 1)
   pub machine : run (r.script.now ∷ []) (start [] 0 1) r.events.items ≡ Some (state_at (plain (table r.entries.items)) r.done)
   pub commits : commits_so_far r ≡ each_alone (puts records)
   pub acks : r.acks.items ≡ owed_acks r.script.now r.events.items
   pub within : IsTrue (list_all (λ (a : Ack). nat_le a.lsn (length records)) r.acks.items)
   pub counted : length r.acks.items ≡ length (puts records)
-  pub size : r.gate_at ≤ 2 ^ 17 * r.next
-  pub short : r.next ≤ 2 ^ 62
 
--- The same, and the disk has the log in segment 1, all of it durable.
-pub record IsReady {D : Type 0} (tells : D → Bool) (reads : D → Image) (may_leave : D → Image → Type 0) (disk : D) (r : Run) : Type 0 where
+-- The same, and the journal has the log, all of it durable.
+pub record IsReady {D : Type 0} (tells : D → Bool) (reads : D → Image) (may_leave : D → Image → Type 0) (j : Journal D) (r : Run) : Type 0 where
   pub records : List Record
   pub answered : IsAnswered records r
-  pub written : IsTrue (tells disk) → get (reads disk) 1 ≡ Some (front records ++ 0 ∷ [])
-  pub durable : IsTrue (tells disk) → IsSynced reads may_leave disk 1
+  pub written : IsWritten tells reads may_leave j records
 
 -- but for one mark each record is a put, and the next put draws the next LSN
-abbrev pub HasOneMark : Run → Type 0
-HasOneMark r = r.next ≡ length r.acks.items + 2
+abbrev pub HasOneMark : {D : Type 0} → Journal D → Run → Type 0
+HasOneMark j r = length j.drawer.drawn ≡ length r.acks.items + 1
 
 -- the numbers of a run that is far from their types' ends
-pub record HasRoom (r : Run) : Type 0 where
-  pub next : r.next < 2 ^ 40
+pub record HasRoom {D : Type 0} (j : Journal D) (r : Run) : Type 0 where
+  pub drawn : length j.drawer.drawn < 2 ^ 40
   pub done : r.done < 2 ^ 40
 
--- nothing was written or answered yet, and the first gate is behind a segment's header
+-- nothing was answered yet
 pub record IsFresh (r : Run) : Type 0 where
   pub done : r.done ≡ 0
   pub entries : r.entries.items ≡ []
   pub events : r.events.items ≡ []
   pub acks : r.acks.items ≡ []
-  pub gate_at : r.gate_at ≡ 22
-  pub next : r.next ≡ 1
 
 -- what the client was told stays
 pub record IsToldAlike (old new : Run) : Type 0 where
@@ -114,28 +99,9 @@ pub record IsToldAlike (old new : Run) : Type 0 where
 abbrev pub Extends : List Changes → List Changes → Type 0
 Extends old new = (more : List Changes) × (new ≡ old ++ more)
 
--- ---- what segment 1 shows
-
-abbrev pub as_files : Option (List ℕ) → List File
-as_files None = []
-as_files (Some bytes) = (1, bytes) ∷ []
-
--- some of the commits
-abbrev pub Known : List Changes → Option (List ℕ) → Type 0
-Known commits file = (n : ℕ) × (j : ℕ) × ShowsPuts (as_files file) commits n j
-
--- the same, with every acknowledged put
-abbrev pub KnownAcked : List Changes → List Ack → Option (List ℕ) → Type 0
-KnownAcked commits acks file = (n : ℕ) × (j : ℕ) × IsTrue (list_all (λ (a : Ack). nat_le a.lsn n) acks) × (length acks ≤ j) × ShowsPuts (as_files file) commits n j
-
--- every commit, and the two marks
-abbrev pub KnownAll : List Changes → Option (List ℕ) → Type 0
-KnownAll commits file = ShowsPuts (as_files file) commits (length commits + 2) (length commits)
-
 -- ---- why a run stopped
 
 -- a stop by the disk only where its count has risen, and else the count is as it was
 abbrev pub StopHasCause : ℕ → ℕ → Option Fault → Type 0
 StopHasCause before now None = now ≡ before
-StopHasCause before now (Some Failed) = (before ≤ now) × Rose before now
-StopHasCause before now (Some Memory) = now ≡ before
+StopHasCause before now (Some fault) = FaultHasCause before now fault

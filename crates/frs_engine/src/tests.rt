@@ -1,5 +1,5 @@
 //! Runs over the forms in memory: their texts, statuses and bytes, and what a crash behind each call leaves.
-ghost use Rattle.std.specs.Prelude.{◌<◌, ◌^◌, IfOk, length};
+ghost use Rattle.std.specs.Prelude.{◌<◌, ◌≤◌, ◌^◌, IfOk, length};
 ghost use Rattle.frs_engine.specs.Runs.{HasWork};
 ghost use Rattle.frs_disk.specs.Disk.{NoneRemovedAbove};
 
@@ -130,9 +130,10 @@ fn run<R: Threads + Wait + Sync>(
     alloc: Global,
     script: &[u8],
     plan: FaultPlan,
-) -> Result<Left, NoMemory>
-    requires { length script.now < 2 ^ 32 }
-{
+) -> Result<Left, NoMemory> {
+    if script.len() >= 1 << 32 {
+        return Err(NoMemory);
+    }
     let disk = empty_disk(alloc, plan)?;
     run_on(rt, alloc, script, disk, Vec::new(alloc))
 }
@@ -311,22 +312,239 @@ fn a_stop_or_a_fault_at_each_call_keeps_what_was_acknowledged(rt: HostRuntime) -
     Ok(())
 }
 
+// So many puts on keys `a`, `b`, .., each of a value of so many bytes.
+fn puts_of(alloc: Global, puts: u32, len: usize) -> Result<Vec<u8>, NoMemory>
+    requires { puts ≤ 26 }
+{
+    let mut script = Vec::new(alloc);
+    for number in 0..puts {
+        script.extend_from_slice(b"put m ")?;
+        script.push(b'a' + number as u8)?;
+        script.push(b' ')?;
+        for _ in 0..len {
+            script.push(b'v')?;
+        }
+        script.push(b'\n')?;
+    }
+    Ok(script)
+}
+
+// A number of so many bytes that stands at an offset.
+fn number_at(bytes: &[u8], at: usize, width: usize) -> Option<u64> {
+    let mut number = 0u64;
+    for byte in bytes.get(at..at.checked_add(width)?)? {
+        number = number.checked_mul(256)?.checked_add(u64::from(*byte))?;
+    }
+    Some(number)
+}
+
+// What was read of the files of a store of `puts_of`: the next LSN, and how many puts there are.
+#[derive(Clone, Copy, PartialEq, Eq)]
+struct Read {
+    next: u64,
+    puts: u8,
+}
+
+// One record more, where it is a mark or the next put.
+fn read_record(read: Read, body: &[u8], len: usize) -> Option<Read> {
+    let next = read.next.checked_add(1)?;
+    if *body.get(0)? == 7 {
+        return Some(Read { next, ..read });
+    }
+    let is_next = number_at(body, 0, 1)? == 1
+        && body.get(25..28)? == [1, b'm', 1].as_slice()
+        && *body.get(28)? == b'a'.checked_add(read.puts)?
+        && number_at(body, 29, 2)? == len as u64
+        && body.get(31..)?.iter().all(|byte| *byte == b'v');
+    if !is_next {
+        return None;
+    }
+    Some(Read {
+        next,
+        puts: read.puts.checked_add(1)?,
+    })
+}
+
+// The chunks of a segment from its first gate on, each of one record, up to a closed gate.
+fn read_chunks(read: Read, bytes: &[u8], len: usize) -> Option<Read> {
+    let mut read = read;
+    let mut at = 22usize;
+    for _ in 0..bytes.len() {
+        if *bytes.get(at)? != 1 {
+            return Some(read);
+        }
+        let body = number_at(bytes, at.checked_add(1)?, 4)? as usize;
+        if number_at(bytes, at.checked_add(5)?, 4)? != 1
+            || number_at(bytes, at.checked_add(9)?, 8)? != read.next
+        {
+            return None;
+        }
+        let start = at.checked_add(17)?;
+        let end = start.checked_add(body)?;
+        read = read_record(read, bytes.get(start..end)?, len)?;
+        at = end;
+    }
+    None
+}
+
+// The open files are segments that follow each other from LSN 1 on, and their puts are the first ones of the script.
+fn read_files(files: &[(u64, Vec<u8>)], len: usize) -> Option<Read> {
+    let mut read = Read { next: 1, puts: 0 };
+    for (number, bytes) in files {
+        if bytes.len() >= 23 && bytes[0] == 1 {
+            if bytes[1..6] != SEGMENT[1..6]
+                || number_at(bytes, 6, 8)? != *number
+                || number_at(bytes, 14, 8)? != read.next
+            {
+                return None;
+            }
+            read = read_chunks(read, bytes, len)?;
+        }
+    }
+    Some(read)
+}
+
+// Each crash leaves at least as many puts as were acknowledged, and at most one more.
+fn keeps_acknowledged(alloc: Global, left: &Left, len: usize) -> Result<bool, NoMemory> {
+    let acknowledged = left
+        .sink
+        .bytes()
+        .windows(8)
+        .filter(|text| *text == b"durable ".as_slice())
+        .count() as u64;
+    for choice in [
+        Choice::Keep,
+        Choice::Lose,
+        Choice::Fill(0),
+        Choice::Fill(1),
+        Choice::Fill(7),
+    ] {
+        let image = left.disk.crash(choice)?;
+        match read_files(image.files(), len) {
+            Some(read)
+                if acknowledged <= u64::from(read.puts)
+                    && u64::from(read.puts) <= acknowledged + 1 => {}
+            _ => return Ok(false),
+        }
+    }
+    let _ = alloc;
+    Ok(true)
+}
+
+#[test]
+fn a_log_over_two_segments_keeps_what_was_acknowledged(rt: HostRuntime) -> Result<(), Fail> {
+    let alloc = rt.alloc();
+    let script = puts_of(alloc, 17, 65_535)?;
+    let whole = run(&rt, alloc, script.as_slice(), no_fault(alloc))?;
+    assert_eq!(rt; whole.status, 0);
+    assert_eq!(rt; whole.disk.files().len(), 2);
+    assert!(rt; read_files(whole.disk.files(), 65_535) == Some(Read { next: 20, puts: 17 }));
+    let calls = whole.disk.record().len() as u64;
+    for calls in 0..calls {
+        let stop = FaultPlan {
+            failing: Vec::new(alloc),
+            stop_after: Some(calls),
+        };
+        let left = run(&rt, alloc, script.as_slice(), stop)?;
+        assert_eq!(rt; left.status, 3);
+        assert!(rt; keeps_acknowledged(alloc, &left, 65_535)?);
+    }
+    Ok(())
+}
+
+#[test]
+fn a_script_of_many_lines_is_run_to_its_end(rt: HostRuntime) -> Result<(), Fail> {
+    let alloc = rt.alloc();
+    let mut script = Vec::new(alloc);
+    for _ in 0..300 {
+        script.extend_from_slice(&puts_of(alloc, 1, 220)?)?;
+    }
+    assert!(rt; script.len() > 65_536);
+    let left = run(&rt, alloc, script.as_slice(), no_fault(alloc))?;
+    assert_eq!(rt; left.status, 0);
+    assert!(rt;
+        left.sink
+            .bytes()
+            .ends_with(b"durable 1 300\nclosed\n".as_slice())
+    );
+    Ok(())
+}
+
+// A script that isn't run, and what is answered.
+const NOT_RUN: [(&[u8], u8, &[u8]); 5] = [
+    (b"put m k\n", 2, b"script 1 line 1 bad\n"),
+    (b"# none\nget m k v\n", 2, b"script 1 line 2 bad\n"),
+    (b"begin\nbegin\n", 2, b"script 1 line 2 bad\n"),
+    (b"begin\ncommit\n", 10, b"later\n"),
+    (b"put m k v\nremove m k\n", 10, b"later\n"),
+];
+
 #[test]
 fn what_cant_be_run_is_answered_so_and_changes_nothing(rt: HostRuntime) -> Result<(), Fail> {
     let alloc = rt.alloc();
-    for script in [
-        b"put m k v".as_slice(),
-        b"put m k\n",
-        b"put m  k v\n",
-        b"get m k v\n",
-        b"begin\n",
-        b"put m k %20\n",
-        b"\n",
-    ] {
+    for (script, status, text) in NOT_RUN {
         let left = run(&rt, alloc, script, no_fault(alloc))?;
-        assert!(rt; left.is(10, b"later\n"));
+        assert!(rt; left.is(status, text));
         assert_eq!(rt; left.disk.record().len(), 0);
     }
+    let mut long = Vec::new(alloc);
+    long.extend_from_slice(b"put m k v\n")?;
+    long.extend_from_slice(&puts_of(alloc, 1, 65_536)?)?;
+    let left = run(&rt, alloc, long.as_slice(), no_fault(alloc))?;
+    assert!(rt; left.is(2, b"script 1 line 2 long\n"));
+    assert_eq!(rt; left.disk.record().len(), 0);
+    Ok(())
+}
+
+// Runs a plan of so many files, each with the name `a`.
+fn run_files<R: Threads + Wait + Sync>(
+    rt: &R,
+    alloc: Global,
+    count: usize,
+) -> Result<Left, NoMemory> {
+    let mut names = Vec::new(alloc);
+    for _ in 0..count {
+        names.push(Name::new(alloc, "a")?)?;
+    }
+    if names.is_empty() {
+        return Err(NoMemory);
+    }
+    let plan = RunPlan::Scripts {
+        files: FileNames::of(names),
+    };
+    let mut files = files_of(alloc, b"get m k\n")?;
+    let mut sink = MemSink::of(alloc, Vec::new(alloc))?;
+    let shelf = MemShelf::of(alloc, Vec::new(alloc))?;
+    let disk = empty_disk(alloc, no_fault(alloc))?;
+    let ended = frs_run(
+        rt, alloc, &plan, disk, &mut files, shelf, &mut sink, &NoTurn,
+    );
+    Ok(Left {
+        status: ended.status,
+        disk: ended.disk,
+        sink,
+    })
+}
+
+#[test]
+fn several_files_are_refused_or_put_off(rt: HostRuntime) -> Result<(), Fail> {
+    let alloc = rt.alloc();
+    assert!(rt; run_files(&rt, alloc, 2)?.is(10, b"later\n"));
+    assert!(rt; run_files(&rt, alloc, 64)?.is(10, b"later\n"));
+    assert!(rt; run_files(&rt, alloc, 65)?.is(8, b"limit clients 65\n"));
+    Ok(())
+}
+
+#[test]
+fn words_may_have_escapes_and_the_sink_may_fail(rt: HostRuntime) -> Result<(), Fail> {
+    let alloc = rt.alloc();
+    let escaped = run(&rt, alloc, b"  put m k %41%20\n\nget m k", no_fault(alloc))?;
+    assert!(rt;
+        escaped.is(
+            0,
+            b"1 1 put m k A%20 -> done\n1 3 get m k -> value A%20\ndurable 1 1\nclosed\n",
+        )
+    );
     let mut failing = Vec::new(alloc);
     failing.push(1)?;
     let disk = empty_disk(alloc, no_fault(alloc))?;

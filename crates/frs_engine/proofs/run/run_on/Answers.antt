@@ -4,14 +4,14 @@ use Rattle.frs_engine.proofs.run.run_on.Goals as goal
 
 pub run_script-session-requires-clause-empty : goal.run_script-session-requires-clause-empty
 run_script-session-requires-clause-empty g c told_now =
-    let told : IsTrue (g.D.Disk.tells c.args.disk.now) = subst IsTrue c.in-Ok.ensures.told told_now in
+    let told : IsTrue (g.D.Disk.tells c.args.disk) = subst IsTrue c.in-Ok.ensures.told told_now in
     c.in-Ok.ensures.seen ∙ empty_by_keys _ (sym (c.in-Ok.ensures.numbers told) ∙ none_counted c.in-Ok.numbers.items (vec_len c.in-Ok.numbers) _ (omega arith) c.is_empty.ensures c.if-is_empty.true)
 
 pub run_script-session-requires-clause-not_removed : goal.run_script-session-requires-clause-not_removed
 run_script-session-requires-clause-not_removed g c told_now n removing =
-    let told : IsTrue (g.D.Disk.tells c.args.disk.now) = subst IsTrue c.in-Ok.ensures.told told_now in
+    let told : IsTrue (g.D.Disk.tells c.args.disk) = subst IsTrue c.in-Ok.ensures.told told_now in
     let above = c.requires.pending told n (c.in-Ok.ensures.pending n removing) in
-    none_there (g.D.Disk.reads c.args.disk.now) above.0
+    none_there (g.D.Disk.reads c.args.disk) above.0
     (empty_by_keys _ (sym (c.in-Ok.ensures.numbers told) ∙ none_counted c.in-Ok.numbers.items (vec_len c.in-Ok.numbers) _ (omega arith) c.is_empty.ensures c.if-is_empty.true)) above.1
 
 pub returns-in-Ok-2-clause-survives : goal.returns-in-Ok-2-clause-survives

@@ -1,27 +1,26 @@
-use Rattle.std.proofs.Common.{◌≡◌, ◌∙◌, ap, sym}
-use Rattle.std.specs.Ordering.{nat_cmp}
-use Rattle.std.specs.FinMap.{get, get-empty}
-use Rattle.frs_disk.specs.Disk.{Image}
-use Rattle.frs_engine.specs.Promise.{commits_of_run}
+use Rattle.std.proofs.Common.{◌≡◌, List, ap, sym, subst, IsTrue}
+use Rattle.frs_disk.specs.Disk.{Within}
+use Rattle.frs_disk.proofs.Moments.{within_join}
+use Rattle.frs_history.specs.Machine.{Changes}
+use Rattle.frs_engine.specs.Journal.{LeftNoFile}
+use Rattle.frs_engine.specs.Promise.{commits_of_run, Shows, ShowsAcked}
 use Rattle.frs_engine.specs.Session.{commits_so_far}
-use Rattle.frs_engine.proofs.Joining.{not_stopped, image_known, image_acked, image_all}
+use Rattle.frs_engine.proofs.Running.{none_shown}
 use Rattle.frs_engine.proofs.session.run_script.Goals as goal
 
-pub play-requires-clause-absent : goal.play-requires-clause-absent
-play-requires-clause-absent g c told = ap (λ (i : Image). get i 1) (c.requires.empty told) ∙ get-empty nat_cmp 1
-
-pub returns-clause-survives : goal.returns-clause-survives
-returns-clause-survives g c told fresh =
+pub returns-in-Ok-clause-survives : goal.returns-in-Ok-clause-survives
+returns-in-Ok-clause-survives g c told none =
     let d = g.D.Disk in
-    let same : commits_so_far c.play.new.self ≡ commits_of_run c.args.script.now c.play.new.self.events.items = ap (λ s. commits_of_run s.now c.play.new.self.events.items) c.play.ensures.script in
+    let start = c.args.disk in
+    let mid = c.in-Ok.journal.writer.disk in
+    let last = c.play.new.journal.writer.disk in
+    let commits : List Changes = commits_of_run c.args.script.now c.play.new.self.events.items in
+    let same : commits_so_far c.play.new.self ≡ commits = ap (λ s. commits_of_run s.now c.play.new.self.events.items) c.play.ensures.script in
+    let told_mid : IsTrue (d.tells mid) = subst IsTrue (sym c.in-Ok.ensures.told.0) told in
+    let none_mid : LeftNoFile d.may_leave c.in-Ok.journal.writer.opened = subst (λ e. LeftNoFile d.may_leave e) (sym c.in-Ok.ensures.opened) none in
+    let first : Within d.moment d.left_since start mid (Shows commits) = λ x left. none_shown x commits (c.in-Ok.ensures.images told none x left) in
+    let second : Within d.moment d.left_since mid last (Shows commits) = λ x left. subst (λ (cs : List Changes). Shows cs x) same (c.play.ensures.images told_mid none_mid x left) in
     record {
-      crash = λ x left. image_known (d.may_leave c.args.disk.now) fresh x (c.play.ensures.elsewhere x left) _ _ same (c.play.ensures.images told x left);
-      durable = λ x left. image_acked (d.may_leave c.args.disk.now) fresh x (c.play.ensures.elsewhere x (g.met.D.Disk.counts_now c.play.new.disk _ x c.play.ensures.time.later left)) _ _ same c.play.new.self.acks.items (c.play.ensures.acked told x left);
+      crash = λ x left. within_join d.moment d.left_since start mid last (Shows commits) c.in-Ok.ensures.time.0 c.play.ensures.time first second x (subst (λ e. d.left_since e (d.moment start) x) c.into_disk.ensures left);
+      durable = λ x left. subst (λ (cs : List Changes). ShowsAcked cs c.play.new.self.acks.items x) same (c.play.ensures.acked told_mid none_mid x (subst (λ e. d.may_leave e x) c.into_disk.ensures left));
     }
-
-pub returns-clause-all : goal.returns-clause-all
-returns-clause-all g c none told fresh x left =
-    let d = g.D.Disk in
-    let same : commits_so_far c.play.new.self ≡ commits_of_run c.args.script.now c.play.new.self.events.items = ap (λ s. commits_of_run s.now c.play.new.self.events.items) c.play.ensures.script in
-    image_all (d.may_leave c.args.disk.now) fresh x (c.play.ensures.elsewhere x (g.met.D.Disk.counts_now c.play.new.disk _ x c.play.ensures.time.later left)) _ _ same
-    (not_stopped c.play.result (sym c.err-stop.ensures.value ∙ none) c.play.ensures.all told x left)

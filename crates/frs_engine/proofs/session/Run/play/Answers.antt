@@ -1,83 +1,56 @@
-use Rattle.std.proofs.Common.{◌≡◌, ◌∙◌, List, [], ap, sym, subst, length, arith, IsTrue}
+use Rattle.std.proofs.Common.{◌∙◌, sym, subst, arith, IsTrue}
 use Rattle.std.proofs.lemmas.Result.{on_ok_weaker}
-use Rattle.std.specs.FinMap.{get}
-use Rattle.frs_disk.specs.Disk.{Passes, Within, AgreesElsewhere}
-use Rattle.frs_disk.proofs.Moments.{agrees_join, passes_join}
-use Rattle.frs_history.specs.declared.event.Ack.{Ack}
-use Rattle.frs_history.specs.Machine.{Changes}
-use Rattle.frs_engine.specs.Session.{commits_so_far, Known, KnownAcked}
-use Rattle.frs_engine.proofs.Joining.{on_ok_both, all_known, known_join, extends_same}
-use Rattle.frs_engine.proofs.Running.{alike_commits, fresh_commits, answered_completes, ready_all}
+use Rattle.frs_disk.specs.Disk.{Passes, Within}
+use Rattle.frs_disk.proofs.Moments.{passes_join}
+use Rattle.frs_engine.specs.Journal.{LeftNoFile}
+use Rattle.frs_engine.specs.Promise.{Shows}
+use Rattle.frs_engine.specs.Session.{commits_so_far}
+use Rattle.frs_engine.proofs.Joining.{on_ok_both, all_shown, shown_join, extends_none}
+use Rattle.frs_engine.proofs.Running.{answered_completes, ready_all}
 use Rattle.frs_engine.proofs.Showing.{known_acked}
 use Rattle.frs_engine.proofs.session.Run.play.Goals as goal
 
-pub returns-in_err-open-clause-images : goal.returns-in_err-open-clause-images
-returns-in_err-open-clause-images g c told x left =
-    let none : commits_so_far c.open.new.self ≡ [] = sym (alike_commits c.args.self.now c.open.new.self c.open.ensures.kept) ∙ fresh_commits c.args.self.now c.requires.fresh in
-    subst (λ (cs : List Changes). Known cs (get x 1)) (sym none) (known_acked [] [] (get x 1) (c.open.ensures.images told x left))
-
-pub returns-in_err-open-clause-acked : goal.returns-in_err-open-clause-acked
-returns-in_err-open-clause-acked g c told x left =
-    let none : commits_so_far c.open.new.self ≡ [] = sym (alike_commits c.args.self.now c.open.new.self c.open.ensures.kept) ∙ fresh_commits c.args.self.now c.requires.fresh in
-    subst (λ (cs : List Changes). KnownAcked cs c.open.new.self.acks.items (get x 1)) (sym none)
-    (subst (λ (acks : List Ack). KnownAcked [] acks (get x 1)) (sym (c.open.ensures.kept.acks ∙ c.requires.fresh.acks))
-    (c.open.ensures.images told x (g.met.D.Disk.counts_now c.open.new.disk _ x c.open.ensures.time.later left)))
+pub returns-in_err-mark-clause-images : goal.returns-in_err-mark-clause-images
+returns-in_err-mark-clause-images g c told none x left = known_acked _ c.args.self.now.acks.items x (c.mark.ensures.images told none x left)
 
 pub returns-in_err-answer_all-clause-images : goal.returns-in_err-answer_all-clause-images
-returns-in_err-answer_all-clause-images g c told =
+returns-in_err-answer_all-clause-images g c told none =
     let d = g.D.Disk in
-    let none : commits_so_far c.open.new.self ≡ [] = sym (alike_commits c.args.self.now c.open.new.self c.open.ensures.kept) ∙ fresh_commits c.args.self.now c.requires.fresh in
-    let first : Within d.moment d.left_since c.args.disk.now c.open.new.disk (λ x. Known (commits_so_far c.open.new.self) (get x 1)) = λ x left.
-    subst (λ (cs : List Changes). Known cs (get x 1)) (sym none) (known_acked [] [] (get x 1) (c.open.ensures.images told x left)) in
-    all_known d.moment d.left_since c.args.disk.now c.open.new.disk c.answer_all.new.disk (commits_so_far c.open.new.self) (commits_so_far c.answer_all.new.self)
-    c.open.ensures.time c.answer_all.ensures.time c.answer_all.ensures.extends first (c.answer_all.ensures.images (subst IsTrue (sym c.open.ensures.told) told))
-
-pub returns-in_err-answer_all-clause-elsewhere : goal.returns-in_err-answer_all-clause-elsewhere
-returns-in_err-answer_all-clause-elsewhere g c =
-    let d = g.D.Disk in
-    agrees_join d.moment d.left_since d.may_leave 1 c.args.disk.now c.open.new.disk c.answer_all.new.disk
-    (λ x left. g.met.D.Disk.counts_now c.open.new.disk _ x c.open.ensures.time.later left) c.open.ensures.time c.answer_all.ensures.time c.open.ensures.elsewhere c.answer_all.ensures.elsewhere
+    let start = c.args.journal.now.writer.disk in
+    let mid = c.mark.new.journal.writer.disk in
+    let first : Within d.moment d.left_since start mid (Shows (commits_so_far c.args.self.now)) = λ x left. known_acked _ c.args.self.now.acks.items x (c.mark.ensures.images told none x left) in
+    all_shown d.moment d.left_since start mid c.answer_all.new.journal.writer.disk (commits_so_far c.args.self.now) (commits_so_far c.answer_all.new.self) c.mark.ensures.time c.answer_all.ensures.time c.answer_all.ensures.extends first
+    (c.answer_all.ensures.images (subst IsTrue (sym c.mark.ensures.told) told) (subst (λ e. LeftNoFile d.may_leave e) (sym c.mark.ensures.opened) none))
 
 pub returns-clause-images : goal.returns-clause-images
-returns-clause-images g c told =
+returns-clause-images g c told none =
     let d = g.D.Disk in
-    let two : Passes d.moment d.left_since c.args.disk.now c.answer_all.new.disk =
-    passes_join d.moment d.left_since c.args.disk.now c.open.new.disk c.answer_all.new.disk (g.met.D.Disk.since_earlier c.answer_all.new.disk) c.open.ensures.time c.answer_all.ensures.time in
-    let none : commits_so_far c.open.new.self ≡ [] = sym (alike_commits c.args.self.now c.open.new.self c.open.ensures.kept) ∙ fresh_commits c.args.self.now c.requires.fresh in
-    let first : Within d.moment d.left_since c.args.disk.now c.open.new.disk (λ x. Known (commits_so_far c.open.new.self) (get x 1)) = λ x left.
-    subst (λ (cs : List Changes). Known cs (get x 1)) (sym none) (known_acked [] [] (get x 1) (c.open.ensures.images told x left)) in
-    let told_open : IsTrue (d.tells c.open.new.disk) = subst IsTrue (sym c.open.ensures.told) told in
-    let answered : Within d.moment d.left_since c.args.disk.now c.answer_all.new.disk (λ x. Known (commits_so_far c.answer_all.new.self) (get x 1)) =
-    all_known d.moment d.left_since c.args.disk.now c.open.new.disk c.answer_all.new.disk (commits_so_far c.open.new.self) (commits_so_far c.answer_all.new.self)
-    c.open.ensures.time c.answer_all.ensures.time c.answer_all.ensures.extends first (c.answer_all.ensures.images told_open) in
-    known_join d.moment d.left_since c.args.disk.now c.answer_all.new.disk c.mark.new.disk (commits_so_far c.answer_all.new.self) (commits_so_far c.mark.new.self) c.answer_all.new.self.acks.items
-    two c.mark.ensures.time (extends_same _ _ (alike_commits c.answer_all.new.self c.mark.new.self c.mark.ensures.kept)) answered (c.mark.ensures.images (subst IsTrue (sym c.answer_all.ensures.told) told_open))
+    let start = c.args.journal.now.writer.disk in
+    let mid = c.answer_all.new.journal.writer.disk in
+    let two : Passes d.moment d.left_since start mid = passes_join d.moment d.left_since start c.mark.new.journal.writer.disk mid (g.met.D.Disk.since_earlier mid) c.mark.ensures.time c.answer_all.ensures.time in
+    let marked = c.mark.new.journal.writer.disk in
+    let first : Within d.moment d.left_since start marked (Shows (commits_so_far c.args.self.now)) = λ x left. known_acked _ c.args.self.now.acks.items x (c.mark.ensures.images told none x left) in
+    let answered = all_shown d.moment d.left_since start marked mid (commits_so_far c.args.self.now) (commits_so_far c.answer_all.new.self) c.mark.ensures.time c.answer_all.ensures.time c.answer_all.ensures.extends first
+    (c.answer_all.ensures.images (subst IsTrue (sym c.mark.ensures.told) told) (subst (λ e. LeftNoFile d.may_leave e) (sym c.mark.ensures.opened) none)) in
+    shown_join d.moment d.left_since start mid c.mark-2.new.journal.writer.disk (commits_so_far c.answer_all.new.self) (commits_so_far c.answer_all.new.self) c.answer_all.new.self.acks.items
+    two c.mark-2.ensures.time (extends_none (commits_so_far c.answer_all.new.self)) answered
+    (c.mark-2.ensures.images (subst IsTrue (sym (c.answer_all.ensures.told ∙ c.mark.ensures.told)) told) (subst (λ e. LeftNoFile d.may_leave e) (sym (c.answer_all.ensures.opened ∙ c.mark.ensures.opened)) none))
 
 pub returns-clause-acked : goal.returns-clause-acked
-returns-clause-acked g c told x left =
-    subst (λ (acks : List Ack). KnownAcked (commits_so_far c.mark.new.self) acks (get x 1)) (sym c.mark.ensures.kept.acks)
-    (c.mark.ensures.images (subst IsTrue (sym (c.answer_all.ensures.told ∙ c.open.ensures.told)) told) x (g.met.D.Disk.counts_now c.mark.new.disk _ x c.mark.ensures.time.later left))
+returns-clause-acked g c told none x left =
+    let d = g.D.Disk in
+    c.mark-2.ensures.images (subst IsTrue (sym (c.answer_all.ensures.told ∙ c.mark.ensures.told)) told) (subst (λ e. LeftNoFile d.may_leave e) (sym (c.answer_all.ensures.opened ∙ c.mark.ensures.opened)) none) x
+    (g.met.D.Disk.counts_now c.mark-2.new.journal.writer.disk _ x c.mark-2.ensures.time.later left)
 
 pub returns-clause-complete : goal.returns-clause-complete
 returns-clause-complete g c =
-    let done : c.mark.new.self.done ≡ length c.mark.new.self.script.now = c.mark.ensures.kept.done ∙ c.in_ok-answer_all.ensures.done ∙ ap (λ s. length s.now) (sym c.mark.ensures.kept.script) in
-    on_ok_weaker c.mark.result (λ ready. answered_completes ready.records c.mark.new.self ready.answered done) c.mark.ensures.ready
+    on_ok_weaker c.mark-2.result (λ ready. answered_completes ready.records c.answer_all.new.self ready.answered c.in_ok-answer_all.ensures.done) c.mark-2.ensures.ready
 
 pub returns-clause-all : goal.returns-clause-all
 returns-clause-all g c =
     let d = g.D.Disk in
-    on_ok_weaker c.mark.result (λ marked told x left. ready_all d.tells d.reads d.may_leave c.mark.new.disk c.mark.new.self marked.0
-    (subst IsTrue (sym (c.mark.ensures.told ∙ c.answer_all.ensures.told ∙ c.open.ensures.told)) told)
-    (omega (arith, marked.1, c.in_ok-answer_all.ensures.marks, ap length c.mark.ensures.kept.acks)) x left)
-    (on_ok_both _ _ c.mark.result c.mark.ensures.ready c.mark.ensures.drawn)
-
-pub returns-clause-elsewhere : goal.returns-clause-elsewhere
-returns-clause-elsewhere g c =
-    let d = g.D.Disk in
-    let two : Passes d.moment d.left_since c.args.disk.now c.answer_all.new.disk =
-    passes_join d.moment d.left_since c.args.disk.now c.open.new.disk c.answer_all.new.disk (g.met.D.Disk.since_earlier c.answer_all.new.disk) c.open.ensures.time c.answer_all.ensures.time in
-    let first : Within d.moment d.left_since c.args.disk.now c.answer_all.new.disk (AgreesElsewhere 1 (d.may_leave c.args.disk.now)) =
-    agrees_join d.moment d.left_since d.may_leave 1 c.args.disk.now c.open.new.disk c.answer_all.new.disk
-    (λ x left. g.met.D.Disk.counts_now c.open.new.disk _ x c.open.ensures.time.later left) c.open.ensures.time c.answer_all.ensures.time c.open.ensures.elsewhere c.answer_all.ensures.elsewhere in
-    agrees_join d.moment d.left_since d.may_leave 1 c.args.disk.now c.answer_all.new.disk c.mark.new.disk
-    (λ x left. g.met.D.Disk.counts_now c.answer_all.new.disk _ x two.later left) two c.mark.ensures.time first c.mark.ensures.elsewhere
+    on_ok_weaker c.mark-2.result (λ marked told none x left. ready_all d.tells d.reads d.may_leave c.mark-2.new.journal c.answer_all.new.self marked.0
+    (subst IsTrue (sym (c.mark-2.ensures.told ∙ c.answer_all.ensures.told ∙ c.mark.ensures.told)) told)
+    (subst (λ e. LeftNoFile d.may_leave e) (sym (c.mark-2.ensures.opened ∙ c.answer_all.ensures.opened ∙ c.mark.ensures.opened)) none) x left
+    (omega (arith, marked.1, c.in_ok-answer_all.ensures.marks)))
+    (on_ok_both _ _ c.mark-2.result c.mark-2.ensures.ready c.mark-2.ensures.drawn)

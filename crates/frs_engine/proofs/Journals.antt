@@ -1,0 +1,307 @@
+-- What single calls of the writer make of a journal.
+use Rattle.std.proofs.Common.{◌≡◌, ◌≢◌, ◌⊎◌, inl, inr, ⊎_elim, ℕ, zero, suc, ◌+◌, ◌^◌, ◌<◌, ◌≤◌, Bool, true, false, cond, List, [], ◌∷◌, ◌++◌, map, length, take, Option, Some, None, Err, refl, sym, ◌∙◌, ap, subst, arith, IsTrue, length-append}
+use Rattle.std.specs.Prelude.{nat_lt, ◌&&◌, nat_le, slice_set, IfSome}
+use Rattle.std.specs.Option.{option_to_list}
+use Rattle.std.specs.FinMap.{entries, empty}
+use Rattle.std.proofs.lemmas.Bool.{cases_eq, and_parts, and_from}
+use Rattle.std.proofs.lemmas.List.{map-append, length-map}
+use mathlib.Core.List.{IsPrefix}
+use Rattle.frs_types.specs.declared.record.Record.{Record}
+use Rattle.frs_types.specs.Records.{Log, Placed, placed_from, allowed}
+use Rattle.frs_disk.specs.declared.disk.Fault.TheVariants.{Failed}
+use Rattle.frs_disk.specs.Disk.{Image}
+use Rattle.frs_frame.specs.Spelling.{spelling}
+use Rattle.frs_segment.specs.declared.layout.Segment.{Segment as Described}
+use Rattle.frs_segment.specs.Segments.{Spells}
+use Rattle.frs_segment.specs.Scanning.{described}
+use Rattle.frs_segment.specs.Stores.{SpellsAlike}
+use Rattle.frs_slots.specs.Views.{TakerView}
+use Rattle.frs_writer.specs.Groups.{Gathers, IsTooLong, joined}
+use Rattle.frs_writer.specs.Places.{number_of_newest, with_newest_grown}
+use Rattle.frs_writer.specs.Shown.{new_segment}
+use Rattle.frs_writer.specs.Writer.{WriterView, IsLog, IsWellOpened, WasEmpty}
+use Rattle.frs_writer.specs.declared.fault.WriteFault.{WriteFault}
+use Rattle.frs_writer.specs.declared.fault.WriteFault.TheVariants as write
+use Rattle.frs_writer.specs.Writing.{HoldsAll, HoldsFrom, HasWriteCause, Wrote, is_due, rolled}
+use Rattle.frs_engine.specs.Journal.{LeftNoFile, HasWritten, HoldsOneMore, log_of, IsOutside, outside, FaultHasCause}
+use Rattle.frs_engine.proofs.Nothing.{entries_empty}
+
+-- ---- lists
+
+-- a list with one of its elements behind these, or with none
+prefix_of_one : {A : Type 0} (xs ys : List A) (y : A) → IsPrefix (xs ++ ys) (xs ++ y ∷ []) → (ys ≡ []) ⊎ (ys ≡ y ∷ [])
+prefix_of_one [] [] y (rest, is) = inl refl
+prefix_of_one [] (z ∷ []) y (rest, is) = inr (cc)
+prefix_of_one [] (z ∷ w ∷ ys) y (rest, is) = absurd (let e : w ∷ (ys ++ rest) ≡ [] = cc in cc)
+prefix_of_one (x ∷ xs) ys y (rest, is) = prefix_of_one xs ys y (rest, cc)
+
+prefix_taken : {A B : Type 0} (f : A → B) (xs : List B) (ys : List A) → IsPrefix xs (map f ys) → (k : ℕ) × (k ≤ length ys) × (xs ≡ map f (take k ys))
+prefix_taken f [] ys (rest, is) = (0, omega arith, refl)
+prefix_taken f (x ∷ xs) [] (rest, is) = absurd (cc)
+prefix_taken {A} {B} f (x ∷ xs) (y ∷ ys) (rest, is) =
+    let head : x ≡ f y = cc in
+    let tail : xs ++ rest ≡ map f ys = cc in
+    let (k, le, more) = prefix_taken f xs ys (rest, tail) in
+    (suc k, omega (arith, le), ap (λ (l : List B). x ∷ l) more ∙ ap (λ (z : B). z ∷ map f (take k ys)) head)
+
+length_taken : {A : Type 0} (k : ℕ) (xs : List A) → k ≤ length xs → length (take k xs) ≡ k
+length_taken zero xs le = refl
+length_taken (suc k) [] le = absurd (omega (arith, le))
+length_taken (suc k) (x ∷ xs) le = ap suc (length_taken k xs (omega (arith, le)))
+
+taken_twice : {A : Type 0} (n k : ℕ) (xs : List A) → n ≤ k → take n (take k xs) ≡ take n xs
+taken_twice zero k xs le = refl
+taken_twice (suc n) zero xs le = absurd (omega (arith, le))
+taken_twice (suc n) (suc k) [] le = refl
+taken_twice {A} (suc n) (suc k) (x ∷ xs) le = ap (λ (l : List A). x ∷ l) (taken_twice n k xs (omega (arith, le)))
+
+taken_front : {A : Type 0} (xs ys : List A) → take (length xs) (xs ++ ys) ≡ xs
+taken_front [] ys = refl
+taken_front {A} (x ∷ xs) ys = ap (λ (l : List A). x ∷ l) (taken_front xs ys)
+
+taken_all : {A : Type 0} (xs : List A) → take (length xs) xs ≡ xs
+taken_all [] = refl
+taken_all {A} (x ∷ xs) = ap (λ (l : List A). x ∷ l) (taken_all xs)
+
+placed_front : (k low n : ℕ) (rs : List Record) → placed_from low n rs ≡ true → placed_from low n (take k rs) ≡ true
+placed_front zero low n rs is = refl
+placed_front (suc k) low n [] is = refl
+placed_front (suc k) low n (r ∷ rs) is =
+    let both = and_parts (allowed n r && nat_le low r.lowest) (placed_from r.lowest (n + 1) rs) is in
+    and_from _ _ both.0 (placed_front k r.lowest (n + 1) rs both.1)
+
+pub placed_before : (rs : List Record) (r : Record) → Placed (log_of (rs ++ r ∷ [])) → Placed (log_of rs)
+placed_before rs r placed = subst (λ (l : List Record). Placed (log_of l)) (taken_front rs (r ∷ [])) (placed_front (length rs) 0 1 (rs ++ r ∷ []) placed)
+
+-- ---- the number of the newest segment
+
+newest_grown : (count body : ℕ) (segments : List Described) → number_of_newest (with_newest_grown count body segments) ≡ number_of_newest segments
+newest_grown count body [] = refl
+newest_grown count body (s ∷ []) = refl
+newest_grown count body (s ∷ t ∷ []) = refl
+newest_grown count body (s ∷ t ∷ u ∷ segments) = newest_grown count body (t ∷ u ∷ segments)
+
+newest_last : (segments : List Described) (s : Described) → number_of_newest (segments ++ s ∷ []) ≡ s.number
+newest_last [] s = refl
+newest_last (t ∷ []) s = refl
+newest_last (t ∷ u ∷ segments) s = newest_last (u ∷ segments) s
+
+newest_rolled : {D : Type 0} (w : WriterView D) → number_of_newest (rolled w) ≤ number_of_newest w.segments + 1
+newest_rolled w = by (is_due w)
+  where
+    next : Described
+    next = described (new_segment (number_of_newest w.segments + 1) (w.synced + 1))
+
+    by : (b : Bool) → number_of_newest (cond b (w.segments ++ described (new_segment (number_of_newest w.segments + 1) (w.synced + 1)) ∷ []) w.segments) ≤ number_of_newest w.segments + 1
+    by true = omega (arith, newest_last w.segments (described (new_segment (number_of_newest w.segments + 1) (w.synced + 1))))
+    by false = omega arith
+
+newest_wrote : {D : Type 0} (limit count : ℕ) (old new : WriterView D) → Wrote limit count old new → number_of_newest new.segments ≤ number_of_newest old.segments + 1
+newest_wrote limit count old new w = subst (λ (s : List Described). number_of_newest s ≤ number_of_newest old.segments + 1) (sym w.segments) (by (nat_lt 0 count))
+  where
+    by : (b : Bool) → number_of_newest (cond b (with_newest_grown count (length (joined w.group)) (rolled old)) (rolled old)) ≤ number_of_newest old.segments + 1
+    by true = omega (arith, newest_grown count (length (joined w.group)) (rolled old), newest_rolled old)
+    by false = newest_rolled old
+
+-- ---- a group of one record
+
+abbrev IsOne : List (List ℕ) → Option (List ℕ) → List ℕ → Type 0
+IsOne group still bytes = (group ≡ bytes ∷ []) × (still ≡ None)
+
+no_group : (group : List (List ℕ)) (still : Option (List ℕ)) → group ++ option_to_list still ≡ [] → (group ≡ []) × (still ≡ None)
+no_group [] None is = (refl, refl)
+no_group [] (Some b) is = absurd (cc)
+no_group (x ∷ group) still is = absurd (cc)
+
+one_group : (group : List (List ℕ)) (still : Option (List ℕ)) (bytes : List ℕ) → group ++ option_to_list still ≡ bytes ∷ [] → IfSome still (λ b. IsTooLong group b × (length b ≤ 65883)) → IsOne group still bytes
+one_group [] None bytes is long = absurd (cc)
+one_group [] (Some b) bytes is long = absurd (omega (arith, long.0, long.1))
+one_group (x ∷ []) None bytes is long = (is, refl)
+one_group (x ∷ []) (Some b) bytes is long = absurd (let e : b ∷ [] ≡ [] = cc in cc)
+one_group (x ∷ y ∷ group) still bytes is long = absurd (let e : y ∷ (group ++ option_to_list still) ≡ [] = cc in cc)
+
+-- The one record that is known is the group, and none waits.
+record GathersOne (new : TakerView) (still : Option (List ℕ)) (group : List (List ℕ)) (before : List (List ℕ)) (bytes : List ℕ) : Type 0 where
+  taken : new.taken ≡ before ++ bytes ∷ []
+  none : still ≡ None
+  one : length group ≡ 1
+
+gathers_one : (old new : TakerView) (kept still : Option (List ℕ)) (group : List (List ℕ)) (bytes : List ℕ) → Gathers 256 old new kept still group → kept ≡ None
+    → old.known ≡ length old.taken + 1 → IsPrefix new.taken (old.taken ++ bytes ∷ []) → GathersOne new still group old.taken bytes
+gathers_one old new kept still group bytes g none known front = ⊎_elim nothing one (prefix_of_one old.taken g.taken bytes (subst (λ (l : List (List ℕ)). IsPrefix l (old.taken ++ bytes ∷ [])) g.taken_are front))
+  where
+    group_is : group ++ option_to_list still ≡ g.taken
+    group_is = g.group_is ∙ ap (λ (o : Option (List ℕ)). option_to_list o ++ g.taken) none
+
+    nothing : g.taken ≡ [] → GathersOne new still group old.taken bytes
+    nothing is =
+        let both = no_group group still (group_is ∙ is) in
+        let same : length new.taken ≡ length old.taken = ap length g.taken_are ∙ length-append old.taken g.taken ∙ omega (arith, ap length is) in
+        absurd (⊎_elim (λ full. omega (arith, full, ap length both.0)) (λ stops. omega (arith, stops both.1, same, known, g.known)) g.stops)
+
+    one : g.taken ≡ bytes ∷ [] → GathersOne new still group old.taken bytes
+    one is =
+        let both = one_group group still bytes (group_is ∙ is) g.too_long in
+        record { taken = g.taken_are ∙ ap (λ (l : List (List ℕ)). old.taken ++ l) is; none = both.1; one = ap length both.0 }
+
+-- ---- what the writer has written
+
+module _ {D : Type 0} (tells : D → Bool) (reads : D → Image) (may_leave : D → Image → Type 0) where
+  -- only what is known of the ring's other end has changed, or what was noted
+  still_written : (w : WriterView D) (rs : List Record) (taker : TakerView) (noted : List ℕ) → HasWritten tells reads may_leave w rs
+      → taker.first ≡ w.taker.first → taker.taken ≡ w.taker.taken → length rs ≤ taker.sure → (lsn : ℕ) × (noted ≡ lsn ∷ []) × (lsn ≤ length rs)
+      → HasWritten tells reads may_leave (record w { taker = taker; noted = noted }) rs
+  still_written w rs taker noted h first taken sure is_noted = record {
+    first = first ∙ h.first;
+    taken = taken ∙ h.taken;
+    sure = sure;
+    kept = h.kept;
+    synced = h.synced;
+    ended = h.ended;
+    number = h.number;
+    noted = is_noted;
+    told = h.told;
+    opened = h.opened;
+    holds = h.holds;
+  }
+
+  pub acknowledged : (w new : WriterView D) (rs : List Record) (lsn : ℕ) → HasWritten tells reads may_leave w rs → lsn ≤ length rs → new ≡ record w { noted = slice_set w.noted 0 lsn } → HasWritten tells reads may_leave new rs
+  acknowledged w new rs lsn h le is =
+      subst (λ (v : WriterView D). HasWritten tells reads may_leave v rs) (sym is)
+      (still_written w rs w.taker (slice_set w.noted 0 lsn) h refl refl h.sure (lsn, ap (λ (l : List ℕ). slice_set l 0 lsn) h.noted.1, le))
+
+  pub known_more : (w new : WriterView D) (rs : List Record) (known : ℕ) → HasWritten tells reads may_leave w rs → new ≡ record w { taker = record w.taker { known = known } } → HasWritten tells reads may_leave new rs
+  known_more w new rs known h is =
+      subst (λ (v : WriterView D). HasWritten tells reads may_leave v rs) (sym is) (still_written w rs (record w.taker { known = known }) w.noted h refl refl h.sure h.noted)
+
+  pub renewed : (w new : WriterView D) (rs : List Record) (ring : List (List ℕ)) (known : ℕ) → HasWritten tells reads may_leave w rs → new ≡ record w { taker = record w.taker { ring = ring; known = known } } → HasWritten tells reads may_leave new rs
+  renewed w new rs ring known h is =
+      subst (λ (v : WriterView D). HasWritten tells reads may_leave v rs) (sym is) (still_written w rs (record w.taker { ring = ring; known = known }) w.noted h refl refl h.sure h.noted)
+
+  -- the receipt of the next record was noted, or wasn't needed any more
+  pub record Learned (w new : WriterView D) (rs : List Record) : Type 0 where
+    pub written : HasWritten tells reads may_leave new rs
+    pub sure : length rs + 1 ≤ new.taker.sure
+
+  pub learned : (w new : WriterView D) (rs : List Record) (lsn : ℕ) → HasWritten tells reads may_leave w rs → lsn ≡ length rs + 1
+      → (lsn ≡ w.taker.first + w.taker.sure → new ≡ record w { taker = record w.taker { sure = w.taker.sure + 1 } }) → (lsn ≢ w.taker.first + w.taker.sure → new ≡ w) → Learned w new rs
+  learned w new rs lsn h next in_order other = elim (cases_eq lsn (w.taker.first + w.taker.sure)) [
+    | inl is ↦ subst (λ (v : WriterView D). Learned w v rs) (sym (in_order is)) (record {
+      written = still_written w rs (record w.taker { sure = w.taker.sure + 1 }) w.noted h refl refl (omega (arith, h.sure)) h.noted;
+      sure = omega (arith, h.sure);
+    })
+    | inr apart ↦ subst (λ (v : WriterView D). Learned w v rs) (sym (other apart)) (record { written = h; sure = later apart })
+  ]
+    where
+      later : lsn ≢ w.taker.first + w.taker.sure → length rs + 1 ≤ w.taker.sure
+      later apart = elim (cases_eq (length rs) w.taker.sure) [
+        | inl same ↦ absurd (apart (omega (arith, next, h.first, same)))
+        | inr differ ↦ omega (arith, h.sure, differ)
+      ]
+
+  -- ---- the log that it writes
+
+  pub well_opened : (opened : D) → reads opened ≡ empty → LeftNoFile may_leave opened → IsWellOpened reads may_leave opened
+  well_opened opened is none c left =
+      let now : entries c ≡ [] = ap (λ (i : Image). entries i) (none c left) ∙ entries_empty in
+      let before : entries (reads opened) ≡ [] = ap (λ (i : Image). entries i) is ∙ entries_empty in
+      subst (λ a. SpellsAlike a (entries c)) (sym before) (subst (λ b. SpellsAlike [] b) (sym now) (λ log segments by. (segments, by, inr refl)))
+
+  pub was_empty : (opened : D) → reads opened ≡ empty → WasEmpty reads opened
+  was_empty opened is =
+      subst (λ a. Spells a (log_of [])) (sym (ap (λ (i : Image). entries i) is ∙ entries_empty))
+      ([], record { rising = refl; older = []; looked = []; files = refl; each = tt; follow = refl; enough = refl; shown = refl })
+
+  writes_log : (w : WriterView D) (rs : List Record) → (reads w.opened ≡ empty) → w.taker.taken ≡ map spelling rs → IsLog reads w (log_of rs)
+  writes_log w rs is taken = record { base = log_of []; spelled = was_empty w.opened is; taken = rs; bytes = taken; is = refl }
+
+  -- what the writer has of the records that were drawn, and what it holds then
+  module _ (old new : WriterView D) (rs : List Record) (r : Record) (h : HasWritten tells reads may_leave old rs) (opened : new.opened ≡ old.opened) (told : IsTrue (tells old.disk)) (none : LeftNoFile may_leave old.opened) where
+    reads_none : reads new.opened ≡ empty
+    reads_none = ap reads opened ∙ h.opened (subst IsTrue h.told told)
+
+    left_none : LeftNoFile may_leave new.opened
+    left_none = subst (λ (d : D). LeftNoFile may_leave d) (sym opened) none
+
+    -- one more of the records, or none
+    holds_next : (k : ℕ) (c : Image) → k ≤ length (rs ++ r ∷ []) → HoldsFrom old.synced (log_of (take k (rs ++ r ∷ []))) c → HoldsOneMore rs r c
+    holds_next k c within (n, from, to, holds) =
+        let all : List Record = rs ++ r ∷ [] in
+        let long : length all ≡ length rs + 1 = length-append rs (r ∷ []) in
+        let le : n ≤ k = omega (arith, to, length_taken k all within) in
+        let shown : HoldsAll (entries c) (take n all) = subst (HoldsAll (entries c)) (taken_twice n k all le) holds in
+        elim (cases_eq n (length rs)) [
+          | inl is ↦ inl (subst (HoldsAll (entries c)) (ap (λ (m : ℕ). take m all) is ∙ taken_front rs (r ∷ [])) shown)
+          | inr more ↦ inr (subst (HoldsAll (entries c)) (ap (λ (m : ℕ). take m all) (last more le) ∙ taken_all all) shown)
+        ]
+      where
+        last : n ≢ length rs → n ≤ k → n ≡ length (rs ++ r ∷ [])
+        last apart le = omega (arith, apart, from, le, within, h.synced, length-append rs (r ∷ []))
+
+    pub holds_within : (left : Image → Type 0) → IsPrefix new.taker.taken (map spelling (rs ++ r ∷ [])) → Placed (log_of (rs ++ r ∷ []))
+        → (IsWellOpened reads may_leave new.opened → (log : Log) → IsLog reads new log → Placed log → WasEmpty reads new.opened → (c : Image) → left c → HoldsFrom old.synced log c)
+        → (c : Image) → left c → HoldsOneMore rs r c
+    holds_within left front placed whole c is_left =
+        let (k, within, taken) = prefix_taken spelling new.taker.taken (rs ++ r ∷ []) front in
+        holds_next k c within
+        (whole (well_opened new.opened reads_none left_none) (log_of (take k (rs ++ r ∷ []))) (writes_log new (take k (rs ++ r ∷ [])) reads_none taken) (placed_front k 0 1 (rs ++ r ∷ []) placed) (was_empty new.opened reads_none) c is_left)
+
+  -- ---- the next record is written
+
+  module _ (count : ℕ) (old new : WriterView D) (rs : List Record) (r : Record) (h : HasWritten tells reads may_leave old rs) (known : old.taker.known ≡ length rs + 1) (sure : length rs + 1 ≤ old.taker.sure)
+      (front : IsPrefix new.taker.taken (map spelling (rs ++ r ∷ []))) (wrote : Wrote 256 count old new) (ended : new.ended ≡ None) (opened : new.opened ≡ old.opened) (noted : new.noted ≡ old.noted) (told : tells new.disk ≡ tells old.disk) where
+    all_are : map spelling (rs ++ r ∷ []) ≡ old.taker.taken ++ spelling r ∷ []
+    all_are = map-append spelling rs (r ∷ []) ∙ ap (λ (l : List (List ℕ)). l ++ spelling r ∷ []) (sym h.taken)
+
+    gathered : GathersOne new.taker new.kept wrote.group old.taker.taken (spelling r)
+    gathered =
+        let many : length old.taker.taken ≡ length rs = ap length h.taken ∙ length-map rs spelling in
+        gathers_one old.taker new.taker old.kept new.kept wrote.group (spelling r) wrote.gathers h.kept (omega (arith, known, many)) (subst (λ (l : List (List ℕ)). IsPrefix new.taker.taken l) all_are front)
+
+    taken_is : new.taker.taken ≡ map spelling (rs ++ r ∷ [])
+    taken_is = gathered.taken ∙ sym all_are
+
+    pub synced_is : new.synced ≡ length (rs ++ r ∷ [])
+    synced_is = omega (arith, wrote.synced, wrote.counted, gathered.one, h.synced, length-append rs (r ∷ []))
+
+    pub one_written : (IsTrue (tells old.disk) → IsWellOpened reads may_leave new.opened → (log : Log) → IsLog reads new log → Placed log → WasEmpty reads new.opened → (c : Image) → may_leave new.disk c → HoldsAll (entries c) (take new.synced log.records))
+        → HasWritten tells reads may_leave new (rs ++ r ∷ [])
+    one_written durable =
+        let long : length (rs ++ r ∷ []) ≡ length rs + 1 = length-append rs (r ∷ []) in
+        record {
+          first = wrote.gathers.ring.1 ∙ h.first;
+          taken = taken_is;
+          sure = omega (arith, long, sure, wrote.gathers.sure);
+          kept = gathered.none;
+          synced = synced_is;
+          ended = ended;
+          number = omega (arith, newest_wrote 256 count old new wrote, h.number, long);
+          noted = (h.noted.0, noted ∙ h.noted.1, omega (arith, h.noted.2, long));
+          told = told ∙ h.told ∙ ap tells (sym opened);
+          opened = λ told_now. ap reads opened ∙ h.opened (subst (λ (d : D). IsTrue (tells d)) opened told_now);
+          holds = λ told_now left_no placed c left.
+              let told_before : IsTrue (tells old.disk) = subst IsTrue told told_now in
+              let empty_then : reads new.opened ≡ empty = ap reads opened ∙ h.opened (subst IsTrue h.told told_before) in
+              subst (HoldsAll (entries c)) (ap (λ (n : ℕ). take n (rs ++ r ∷ [])) synced_is ∙ taken_all (rs ++ r ∷ []))
+              (durable told_before (well_opened new.opened empty_then left_no) (log_of (rs ++ r ∷ [])) (writes_log new (rs ++ r ∷ []) empty_then taken_is) placed (was_empty new.opened empty_then) c left);
+        }
+
+-- ---- the opening
+
+pub empty_holds : (c : Image) → c ≡ empty → HoldsAll (entries c) []
+empty_holds c is = subst (λ files. HoldsAll files []) (sym (ap (λ (i : Image). entries i) is ∙ entries_empty)) (record { rising = refl; segments = []; each = tt; follow = refl; shown = refl })
+
+-- ---- why a group wasn't written
+
+pub write_cause : {D : Type 0} (faults : D → ℕ) (old new : WriterView D) (fault : WriteFault) → HasWriteCause {D = D} {X = ℕ} faults old new (Err fault) → IsOutside fault → FaultHasCause (faults old.disk) (faults new.disk) (outside fault)
+write_cause faults old new write.Disk cause is = cause.0
+write_cause faults old new write.Memory cause is = cause.0
+write_cause faults old new (write.Broken before now) cause is = absurd is
+write_cause faults old new (write.NumberLimit number) cause is = absurd is
+
+pub is_outside : {D : Type 0} (tells : D → Bool) (reads : D → Image) (may_leave : D → Image → Type 0) (faults : D → ℕ) (old new : WriterView D) (rs : List Record) (fault : WriteFault)
+    → HasWritten tells reads may_leave old rs → length rs < 2 ^ 41 → HasWriteCause {D = D} {X = ℕ} faults old new (Err fault) → IsOutside fault
+is_outside tells reads may_leave faults old new rs write.Disk h short cause = tt
+is_outside tells reads may_leave faults old new rs write.Memory h short cause = tt
+is_outside tells reads may_leave faults old new rs (write.Broken before now) h short cause = let none : None ≡ Some Failed = sym h.ended ∙ cause.3 in absurd (cc)
+is_outside tells reads may_leave faults old new rs (write.NumberLimit number) h short cause = absurd (omega (arith, cause.0, cause.1, h.number, short))

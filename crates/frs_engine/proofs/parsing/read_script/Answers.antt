@@ -1,0 +1,10 @@
+use Rattle.std.proofs.Common.{◌≤◌, [], arith, length}
+use Rattle.std.specs.Str.Lines.{lines}
+use Rattle.frs_text.specs.Scripts.{up_to}
+use Rattle.frs_engine.proofs.Counted.{few_lines}
+use Rattle.frs_engine.proofs.parsing.read_script.Goals as goal
+
+pub returns-clause-short : goal.returns-clause-short
+returns-clause-short g c =
+    let few : length c.in_ok-script.script ≤ 1000000 = few_lines (up_to 1000000 64) [] 1 (lines c.deref.result.now) c.in_ok-script.script (omega arith) c.in_ok-script.ensures.found in
+    omega (arith, few)

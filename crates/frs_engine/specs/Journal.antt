@@ -1,0 +1,88 @@
+-- The journal of a store that was empty: what its writer has written, and what a crash leaves of it.
+use Rattle.std.specs.Prelude.{◌≡◌, ◌⊎◌, ℕ, ◌+◌, ◌≤◌, Bool, List, [], ◌∷◌, ◌++◌, length, map, None, Result, Ok, Err, IsTrue}
+use Rattle.std.specs.FinMap.{entries, empty}
+use Rattle.frs_types.specs.declared.record.Record.{Record}
+use Rattle.frs_types.specs.Records.{Log, Placed}
+use Rattle.frs_disk.specs.declared.disk.Fault.{Fault}
+use Rattle.frs_disk.specs.declared.disk.Fault.TheVariants.{Failed, Memory}
+use Rattle.frs_disk.specs.Disk.{Image, Rose}
+use Rattle.frs_frame.specs.Spelling.{spelling}
+use Rattle.frs_slots.specs.Views.{AreOfOneRing}
+use Rattle.frs_writer.specs.declared.fault.WriteFault.{WriteFault}
+use Rattle.frs_writer.specs.declared.fault.WriteFault.TheVariants as write
+use Rattle.frs_writer.specs.Places.{number_of_newest}
+use Rattle.frs_writer.specs.Writer.{WriterView}
+use Rattle.frs_writer.specs.Writing.{HoldsAll}
+use Rattle.frs_engine.specs.declared.journal.Journal.{Journal}
+
+-- a log from LSN 1 on
+abbrev pub log_of : List Record → Log
+log_of records = record { first = 1; records = records }
+
+-- a crash at the opening would have left no file
+abbrev pub LeftNoFile : {D : Type 0} → (D → Image → Type 0) → D → Type 0
+LeftNoFile may_leave disk = (c : Image) → may_leave disk c → c ≡ empty
+
+-- ---- what was written
+
+-- The writer of a store that was empty has taken these records, and all of them are durable.
+pub record HasWritten {D : Type 0} (tells : D → Bool) (reads : D → Image) (may_leave : D → Image → Type 0) (w : WriterView D) (records : List Record) : Type 0 where
+  pub first : w.taker.first ≡ 1
+  pub taken : w.taker.taken ≡ map spelling records
+  pub sure : length records ≤ w.taker.sure
+  pub kept : w.kept ≡ None
+  pub synced : w.synced ≡ length records
+  pub ended : w.ended ≡ None
+  pub number : number_of_newest w.segments ≤ length records + 1
+  pub noted : (lsn : ℕ) × (w.noted ≡ lsn ∷ []) × (lsn ≤ length records)
+  pub told : tells w.disk ≡ tells w.opened
+  pub opened : IsTrue (tells w.opened) → reads w.opened ≡ empty
+  pub holds : IsTrue (tells w.disk) → LeftNoFile may_leave w.opened → Placed (log_of records) → (c : Image) → may_leave w.disk c → HoldsAll (entries c) records
+
+-- the two ends are of one ring, on which these records were drawn
+pub record HasDrawn {D : Type 0} (j : Journal D) (records : List Record) : Type 0 where
+  pub one_ring : AreOfOneRing j.drawer j.writer.taker
+  pub drawn : j.drawer.drawn ≡ map spelling records
+
+-- every record that was drawn is durable
+pub record IsWritten {D : Type 0} (tells : D → Bool) (reads : D → Image) (may_leave : D → Image → Type 0) (j : Journal D) (records : List Record) : Type 0 where
+  pub written : HasWritten tells reads may_leave j.writer records
+  pub drawn : HasDrawn j records
+
+-- one more record was drawn
+pub record IsNext {D : Type 0} (tells : D → Bool) (reads : D → Image) (may_leave : D → Image → Type 0) (j : Journal D) (records : List Record) (r : Record) : Type 0 where
+  pub written : HasWritten tells reads may_leave j.writer records
+  pub drawn : HasDrawn j (records ++ r ∷ [])
+
+-- and the writer knows of it
+pub record IsPublished {D : Type 0} (tells : D → Bool) (reads : D → Image) (may_leave : D → Image → Type 0) (j : Journal D) (records : List Record) (r : Record) : Type 0 where
+  pub next : IsNext tells reads may_leave j records r
+  pub known : j.writer.taker.known ≡ length records + 1
+  pub sure : length records + 1 ≤ j.writer.taker.sure
+
+-- ---- what a crash leaves
+
+-- these records, or one more
+abbrev pub HoldsOneMore : List Record → Record → Image → Type 0
+HoldsOneMore records r c = HoldsAll (entries c) records ⊎ HoldsAll (entries c) (records ++ r ∷ [])
+
+-- ---- why a call was refused
+
+-- the disk or memory has failed in this call
+abbrev pub IsOutside : WriteFault → Type 0
+IsOutside write.Disk = Unit {0}
+IsOutside write.Memory = Unit {0}
+IsOutside other = ⊥
+
+abbrev pub outside : WriteFault → Fault
+outside write.Disk = Failed
+outside other = Memory
+
+-- the disk only where its count has risen, and else the count is as it was
+abbrev pub FaultHasCause : ℕ → ℕ → Fault → Type 0
+FaultHasCause before now Failed = Rose before now
+FaultHasCause before now Memory = now ≡ before
+
+abbrev pub CallHasCause : {T : Type 0} → ℕ → ℕ → Result T Fault → Type 0
+CallHasCause before now (Ok value) = now ≡ before
+CallHasCause before now (Err fault) = FaultHasCause before now fault

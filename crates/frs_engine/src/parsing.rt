@@ -1,0 +1,93 @@
+//! Reads the script of a plan's one file.
+ghost use Rattle.std.specs.Prelude.{◌≡◌, ◌⊎◌, ◌<◌, ◌^◌, ℕ, List, Some, None, Ok, Err, length, false, IsTrue, IfOk, IfErr, MatchResult};
+ghost use Rattle.frs_history.specs.declared.command.Line.{Line as Meant};
+ghost use Rattle.frs_disk.specs.Disk.{Rose};
+ghost use Rattle.frs_text.specs.declared.script_fault.ScriptFault.{ScriptFault as Refusal};
+ghost use Rattle.frs_engine.specs.Causes.{one_file, bytes_of_plan, ending_of_plan, HasOthers, IsUnread};
+ghost use Rattle.frs_engine.specs.Endings.{parsed, ending_by};
+ghost use Rattle.frs_engine.specs.Promise.{is_put_or_get, has_puts_and_gets};
+
+use crate::report::Ending;
+use frs_disk::{Fault, Files, Name};
+use frs_history::{Command, Line, Script};
+use frs_text::{RunPlan, ScriptFault, parse_script};
+use std::alloc::Global;
+
+// A run has at most so many clients.
+const CLIENTS: usize = 64;
+
+// A file has at most so many commands, and so many snapshots.
+const COMMANDS: u32 = 1_000_000;
+
+const SNAPSHOTS: u32 = 64;
+
+// The name of the one file of a plan, or how a run of the plan ends.
+fn one_file(plan: &RunPlan) -> Result<&Name, Ending>
+    ensures { MatchResult result (λ name. one_file plan.now ≡ Some name.now) (λ ending. (one_file plan.now ≡ None) × (ending ≡ ending_of_plan plan.now)) }
+{
+    match plan {
+        RunPlan::Scripts { files } => match files.names() {
+            [name] => Ok(name),
+            names if names.len() > CLIENTS => Err(Ending::Crowded {
+                clients: names.len() as u64,
+            }),
+            _ => Err(Ending::Later),
+        },
+        RunPlan::Demo { .. } => Err(Ending::Later),
+    }
+}
+
+// The script that the bytes spell, or how a run of them ends.
+fn parse(alloc: Global, bytes: &[u8]) -> Result<Script, Ending>
+    requires { length bytes.now < 2 ^ 32 }
+    ensures found { IfOk result (λ script. parsed bytes.now ≡ Ok script) }
+    ensures refused { IfErr result (λ ending. (ending ≡ Ending.Memory) ⊎ ((fault : Refusal) × (parsed bytes.now ≡ Err fault) × (ending ≡ ending_by fault))) }
+{
+    match parse_script(alloc, bytes, COMMANDS, SNAPSHOTS) {
+        Ok(script) => Ok(script),
+        Err(ScriptFault::BadLine { line }) => Err(Ending::Bad { line }),
+        Err(ScriptFault::TooLong { line }) => Err(Ending::Long { line }),
+        Err(ScriptFault::TooMany { line }) => Err(Ending::Past { line }),
+        Err(ScriptFault::Memory) => Err(Ending::Memory),
+    }
+}
+
+fn is_put_or_get(line: &Line) -> bool
+    ensures { result ≡ is_put_or_get line.now.command }
+{
+    matches!(line.command, Command::Put { .. } | Command::Get { .. })
+}
+
+// Whether a script has puts and gets alone.
+fn has_puts_and_gets(script: &[Line]) -> bool
+    ensures { result ≡ has_puts_and_gets script.now }
+{
+    script.iter().all(|line| is_put_or_get(line))
+}
+
+/// The script of the plan's one file, where it has puts and gets alone, or how a run of the plan ends.
+pub(crate) fn read_script<F: Files>(
+    alloc: Global,
+    plan: &RunPlan,
+    files: &mut F,
+) -> Result<Script, Ending>
+    ensures found { IfOk result (λ script. IsTrue (F.tells files.old) → (file : List ℕ) × (bytes_of_plan plan.now (F.file files.old) ≡ Some file) × (parsed file ≡ Ok script)) }
+    ensures simple { IfOk result (λ script. IsTrue (has_puts_and_gets script)) }
+    ensures short { IfOk result (λ script. length script < 2 ^ 32) }
+    ensures one { IfOk result (λ script. (name : List ℕ) × (one_file plan.now ≡ Some name)) }
+    ensures several { one_file plan.now ≡ None → result ≡ Err (ending_of_plan plan.now) }
+    ensures why { IfErr result (λ ending. IsUnread plan.now (F.tells files.old) (bytes_of_plan plan.now (F.file files.old)) (Rose (F.faults files.old) (F.faults files.new)) ending) }
+    ensures steady { (result ≡ Err Ending.Unread) ⊎ (F.faults files.new ≡ F.faults files.old) }
+{
+    let name = one_file(plan)?;
+    let bytes = match files.read(alloc, name) {
+        Ok(bytes) => bytes,
+        Err(Fault::Failed) => return Err(Ending::Unread),
+        Err(Fault::Memory) => return Err(Ending::Memory),
+    };
+    let script = parse(alloc, &bytes)?;
+    if !has_puts_and_gets(script.lines()) {
+        return Err(Ending::Later);
+    }
+    Ok(script)
+}
