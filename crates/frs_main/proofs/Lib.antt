@@ -1,2 +1,3 @@
--- Lemmas on what the real forms answer.
+-- Lemmas on what the real forms answer, and on what a command line asks for.
 mod Rising
+mod Words

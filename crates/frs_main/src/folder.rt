@@ -16,7 +16,8 @@ use std::{fs, io};
 ///
 /// A file that was created lasts through a crash only once the folder was synced, too: the first sync after it does
 /// that before it answers. After a sync that failed every call fails: what the system kept is not known, so the store
-/// is to be opened again.
+/// is to be opened again. What is there at the start may be the work of a program that was killed before it synced, and
+/// is read all the same; so all files are synced before the first change. Nothing is opened for writing to be read.
 #[derive(Drop)]
 pub struct FolderDisk {
     folder: Folder,
@@ -30,6 +31,8 @@ struct Folder {
     path: String,
     // The segment in use, whose file stays open.
     open: Option<OpenSegment>,
+    // The files that were there at the start are synced.
+    is_settled: bool,
     // A file was created since the folder was synced.
     has_new_name: bool,
     // A sync failed.
@@ -40,6 +43,8 @@ struct Folder {
 struct OpenSegment {
     number: u64,
     file: File,
+    // It is open for writing, too.
+    writes: bool,
 }
 
 impl FolderDisk {
@@ -51,6 +56,7 @@ impl FolderDisk {
             alloc,
             path: String::from_str(alloc, path)?,
             open: None,
+            is_settled: false,
             has_new_name: false,
             has_failed: false,
         };
@@ -133,8 +139,32 @@ impl Folder {
         Ok(rising(alloc, &numbers)?)
     }
 
-    fn create(&mut self, number: u64) -> io::Result<()> {
+    // Syncs what is there at the start.
+    fn sync_listed(&mut self) -> io::Result<()> {
+        let numbers = self.listed(self.alloc)?;
+        for number in &numbers {
+            let path = self.path_of(*number)?;
+            let synced = File::open(&self.rt, path.as_str())?.sync_data();
+            if synced.is_err() {
+                self.has_failed = true;
+            }
+            synced?;
+        }
+        Ok(())
+    }
+
+    // Before each change.
+    fn settle(&mut self) -> io::Result<()> {
         self.check()?;
+        if !self.is_settled {
+            self.sync_listed()?;
+            self.is_settled = true;
+        }
+        Ok(())
+    }
+
+    fn create(&mut self, number: u64) -> io::Result<()> {
+        self.settle()?;
         let path = self.path_of(number)?;
         let file = OpenOptions::new()
             .read(true)
@@ -142,60 +172,70 @@ impl Folder {
             .create_new(true)
             .open(&self.rt, path.as_str())?;
         self.has_new_name = true;
-        self.open = Some(OpenSegment { number, file });
+        self.open = Some(OpenSegment {
+            number,
+            file,
+            writes: true,
+        });
         Ok(())
     }
 
-    // The open file of the segment. It is given back by `keep`.
-    fn take(&mut self, number: u64) -> io::Result<File> {
+    // The open file of the segment. It is given back by `keep`, unless a call on it failed.
+    fn take(&mut self, number: u64, writes: bool) -> io::Result<OpenSegment> {
         self.check()?;
         match self.open.take() {
-            Some(open) if open.number == number => Ok(open.file),
+            Some(open) if open.number == number && (open.writes || !writes) => Ok(open),
             _ => {
                 let path = self.path_of(number)?;
-                OpenOptions::new()
+                let file = OpenOptions::new()
                     .read(true)
-                    .write(true)
-                    .open(&self.rt, path.as_str())
+                    .write(writes)
+                    .open(&self.rt, path.as_str())?;
+                Ok(OpenSegment {
+                    number,
+                    file,
+                    writes,
+                })
             }
         }
     }
 
-    fn keep(&mut self, number: u64, file: File) {
-        self.open = Some(OpenSegment { number, file });
+    fn keep(&mut self, open: OpenSegment) {
+        self.open = Some(open);
     }
 
     fn length(&mut self, number: u64) -> io::Result<u64> {
-        let file = self.take(number)?;
-        let length = file.metadata()?.len();
-        self.keep(number, file);
+        let open = self.take(number, false)?;
+        let length = open.file.metadata()?.len();
+        self.keep(open);
         Ok(length)
     }
 
     fn read(&mut self, alloc: Global, number: u64, at: u64, room: u64) -> io::Result<Vec<u8>>
         ensures { IfOk result (λ v. length v.items ≤ room) }
     {
-        let file = self.take(number)?;
-        let length = file.metadata()?.len();
+        let open = self.take(number, false)?;
+        let length = open.file.metadata()?.len();
         let count = room.min(length.saturating_sub(at));
         let mut bytes = vec![in alloc; 0u8; count as usize]?;
-        file.read_exact_at(&mut bytes, at)?;
-        self.keep(number, file);
+        open.file.read_exact_at(&mut bytes, at)?;
+        self.keep(open);
         Ok(bytes)
     }
 
     fn write(&mut self, number: u64, at: u64, bytes: &[u8]) -> io::Result<()> {
-        let file = self.take(number)?;
-        file.write_all_at(bytes, at)?;
-        self.keep(number, file);
+        self.settle()?;
+        let open = self.take(number, true)?;
+        open.file.write_all_at(bytes, at)?;
+        self.keep(open);
         Ok(())
     }
 
     // The content and the length of the file, and then the folder where it has a new name.
     fn sync_both(&mut self, number: u64) -> io::Result<()> {
-        let file = self.take(number)?;
-        file.sync_data()?;
-        self.keep(number, file);
+        let open = self.take(number, false)?;
+        open.file.sync_data()?;
+        self.keep(open);
         if self.has_new_name {
             File::open(&self.rt, self.path.as_str())?.sync_all()?;
             self.has_new_name = false;
@@ -212,7 +252,7 @@ impl Folder {
     }
 
     fn remove(&mut self, number: u64) -> io::Result<()> {
-        self.check()?;
+        self.settle()?;
         let path = self.path_of(number)?;
         if self.open.as_ref().is_some_and(|open| open.number == number) {
             self.open = None;

@@ -5,26 +5,45 @@ mod cause;
 mod files;
 mod folder;
 mod out;
+mod refusal;
 #[cfg(test)]
 mod tests;
+
+ghost use Rattle.std.specs.Prelude.{◌≡◌};
+ghost use Rattle.frs_text.specs.declared.plan.RunPlan.{RunPlan as Runs};
+ghost use Rattle.frs_engine.specs.Runs.{HasWork};
 
 use files::FolderFiles;
 use folder::FolderDisk;
 use frs_disk::{MemShelf, Name, Sink};
-use frs_engine::{FileNames, RunPlan, frs_run};
+use frs_engine::{RunPlan, frs_plain, frs_run};
+use frs_text::{Job, Plan, read_words};
 use frs_types::{NoMemory, NoTurn};
 use out::OutSink;
-use std::io::ErrorKind;
+use refusal::{Refusal, USAGE};
+use std::env;
 use std::process::ExitCode;
 use std::sync::Wait;
 use std::thread::Threads;
-use std::{env, io};
 
-/// The status where there was no memory.
-const OUT_OF_MEMORY: u8 = 9;
+/// The name and the version.
+const VERSION: &[u8] = b"frs 0.1.0\n";
 
-/// The status of what can't be asked for yet.
-const LATER: u8 = 10;
+/// What the commands do, behind the usage line.
+const COMMANDS: &[u8] = b"  STORE               the store: a folder that exists
+  run FILE..          runs the script in each file as a client, and prints what was answered
+  recover             prints the maps, a line ID KEY VALUE for each entry
+  compact             writes old entries again and drops the segments before them (not yet)
+  stat                prints the numbers of the store
+  demo CLIENTS COUNT  runs scripts that it makes (not yet)
+  --help              prints this
+  --version           prints the name and the version
+So far run takes one file of put and get commands, and a store without segments.
+What can't be done yet prints later and ends with status 10.
+";
+
+/// The status where the output failed.
+const OUTPUT_FAILED: u8 = 6;
 
 fn main(rt: HostRuntime) -> ExitCode {
     ExitCode::from(status_of(&rt, rt))
@@ -32,50 +51,60 @@ fn main(rt: HostRuntime) -> ExitCode {
 
 // Carries out what the words ask for. The threads and the waiting are the first handle's, all else is the second's.
 fn status_of<R: Threads + Wait + Sync>(rt: &R, host: HostRuntime) -> u8 {
-    let words = match words_of(&host) {
-        Ok(words) => words,
-        Err(e) if e.kind() == ErrorKind::OutOfMemory => return OUT_OF_MEMORY,
-        // A word that is no text.
-        Err(_) => return later(host),
-    };
+    match obey(rt, host) {
+        Ok(status) => status,
+        Err(refusal) => refusal.tell(host),
+    }
+}
+
+fn obey<R: Threads + Wait + Sync>(rt: &R, host: HostRuntime) -> Result<u8, Refusal> {
+    let words = words_of(host)?;
     match words.as_slice() {
-        [store, job, file] if job.as_str() == "run" => {
-            run(rt, host, store.as_str(), file.as_str()).unwrap_or(OUT_OF_MEMORY)
-        }
-        _ => later(host),
+        [word] if word.as_str() == "--help" => Ok(print(host, &[USAGE, COMMANDS])),
+        [word] if word.as_str() == "--version" => Ok(print(host, &[VERSION])),
+        words => Ok(carry_out(rt, host, &read_words(host.alloc(), words)?)?),
     }
 }
 
 // The words behind the program's name.
-fn words_of(rt: &HostRuntime) -> io::Result<Vec<String>> {
-    Ok(env::args(rt)?.skip(1).collect(rt.alloc())?)
+fn words_of(rt: HostRuntime) -> Result<Vec<Name>, Refusal> {
+    let alloc = rt.alloc();
+    let mut words = Vec::new(alloc);
+    for word in env::args(&rt)?.skip(1) {
+        words.push(Name::new(alloc, word.as_str())?)?;
+    }
+    Ok(words)
 }
 
-// Runs one script on the store in a folder.
-fn run<R: Threads + Wait + Sync>(
+// Does the job on the store in its folder.
+fn carry_out<R: Threads + Wait + Sync>(
     rt: &R,
     host: HostRuntime,
-    store: &str,
-    file: &str,
-) -> Result<u8, NoMemory> {
+    plan: &Plan,
+) -> Result<u8, NoMemory>
+    requires { (run : Runs) → plan.now.job ≡ Job.Run run → HasWork run }
+{
     let alloc = host.alloc();
-    let disk = FolderDisk::of(host, store)?;
-    let shelf = MemShelf::of(alloc, Vec::new(alloc))?;
-    let mut names = Vec::new(alloc);
-    names.push(Name::new(alloc, file)?)?;
-    let plan = RunPlan::Scripts {
-        files: FileNames::of(names),
-    };
-    let mut files = FolderFiles::of(host);
+    let disk = FolderDisk::of(host, plan.store.as_str())?;
     let mut sink = OutSink::of(host.stdout());
-    let ended = frs_run(
-        rt, alloc, &plan, disk, &mut files, shelf, &mut sink, &NoTurn,
-    );
-    Ok(ended.status)
+    match &plan.job {
+        Job::Run { plan } => {
+            let shelf = MemShelf::of(alloc, Vec::new(alloc))?;
+            let mut files = FolderFiles::of(host);
+            let ended = frs_run(rt, alloc, plan, disk, &mut files, shelf, &mut sink, &NoTurn);
+            Ok(ended.status)
+        }
+        Job::Plain { plan } => Ok(frs_plain(alloc, plan, disk, &mut sink).status),
+    }
 }
 
-// What is asked for isn't there yet.
-fn later(rt: HostRuntime) -> u8 {
-    let _ = OutSink::of(rt.stdout()).write(b"later\n");
-    LATER
+// Prints these texts on standard output.
+fn print(rt: HostRuntime, texts: &[&[u8]]) -> u8 {
+    let mut sink = OutSink::of(rt.stdout());
+    for text in texts {
+        if sink.write(text).is_err() {
+            return OUTPUT_FAILED;
+        }
+    }
+    0
 }

@@ -1,0 +1,76 @@
+//! Why the program begins nothing.
+
+use frs_text::WordsFault;
+use frs_types::NoMemory;
+use std::alloc::{AllocError, AllocFailed};
+use std::io;
+use std::io::{ErrorKind, Write};
+
+/// How the program is called.
+pub(crate) const USAGE: &[u8] =
+    b"usage: frs STORE run FILE.. | recover | compact | stat | demo CLIENTS COUNT\n";
+
+/// The status of words that ask for nothing.
+const NOT_UNDERSTOOD: u8 = 1;
+
+/// The status where there was no memory.
+const OUT_OF_MEMORY: u8 = 9;
+
+/// Why nothing is begun.
+#[derive(Clone, Copy, Debug, PartialEq, Eq)]
+pub(crate) enum Refusal {
+    /// The words ask for nothing, or one of them is no text.
+    Usage,
+    /// There was no memory.
+    Memory,
+}
+
+impl Refusal {
+    /// Prints how the program is called on standard error, where its words were at fault, and gives the status.
+    pub(crate) fn tell(self, rt: HostRuntime) -> u8 {
+        match self {
+            Refusal::Usage => {
+                let _ = rt.stderr().write_all(USAGE);
+                NOT_UNDERSTOOD
+            }
+            Refusal::Memory => OUT_OF_MEMORY,
+        }
+    }
+}
+
+impl From<WordsFault> for Refusal {
+    fn from(fault: WordsFault) -> Self {
+        match fault {
+            WordsFault::Usage { .. } => Refusal::Usage,
+            WordsFault::Memory => Refusal::Memory,
+        }
+    }
+}
+
+// Of the words: one that is no text is an error, too.
+impl From<io::Error> for Refusal {
+    fn from(e: io::Error) -> Self {
+        match e.kind() {
+            ErrorKind::OutOfMemory => Refusal::Memory,
+            _ => Refusal::Usage,
+        }
+    }
+}
+
+impl From<NoMemory> for Refusal {
+    fn from(_: NoMemory) -> Self {
+        Refusal::Memory
+    }
+}
+
+impl From<AllocError> for Refusal {
+    fn from(_: AllocError) -> Self {
+        Refusal::Memory
+    }
+}
+
+impl<T: Drop> From<AllocFailed<T>> for Refusal {
+    fn from(_: AllocFailed<T>) -> Self {
+        Refusal::Memory
+    }
+}
