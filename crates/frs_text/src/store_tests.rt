@@ -1,4 +1,9 @@
 //! What is printed of stores, whose files and texts are worked out by hand.
+ghost use Rattle.std.specs.Prelude.{map};
+ghost use Rattle.std.specs.List.{AllByRecursion};
+ghost use Rattle.frs_disk.specs.Disk.{IsNumber};
+ghost use Rattle.frs_disk.specs.Files.{AreDistinct};
+
 use super::*;
 use frs_disk::{FaultPlan, MemDisk, MemSink};
 use frs_recovery::recover;
@@ -81,7 +86,10 @@ fn printed(
     rt: &impl Abort,
     alloc: Global,
     files: Vec<(u64, Vec<u8>)>,
-) -> Result<(MemSink, MemSink), Fail> {
+) -> Result<(MemSink, MemSink), Fail>
+    requires in_range { AllByRecursion IsNumber (map (λ f. f.0) files.items) }
+    requires distinct { AreDistinct (map (λ f. f.0) files.items) }
+{
     let plan = FaultPlan {
         failing: Vec::new(alloc),
         stop_after: None,
@@ -104,7 +112,10 @@ fn expect(
     files: Vec<(u64, Vec<u8>)>,
     maps: &str,
     numbers: &str,
-) -> Result<(), Fail> {
+) -> Result<(), Fail>
+    requires in_range { AllByRecursion IsNumber (map (λ f. f.0) files.items) }
+    requires distinct { AreDistinct (map (λ f. f.0) files.items) }
+{
     let (found_maps, found_numbers) = printed(rt, alloc, files)?;
     assert_eq!(rt; found_maps.bytes(), maps.as_bytes());
     assert_eq!(rt; found_numbers.bytes(), numbers.as_bytes());
