@@ -1,5 +1,6 @@
 mod Begins
 mod Descent
+mod Either
 mod Files
 mod Firsts
 mod Found

@@ -45,7 +45,7 @@ read_down_to l s [] looked meets = nothing_read l.records 1 (end_of s) looked.re
 read_down_to l s (t ∷ segments) looked meets = subst (λ (n : ℕ). HasRead l.records n (all_records (t ∷ segments))) (eqb-true t.first (end_of s) meets) looked.read
 
 -- segments that follow one another, and one in front of them
-follows : (t : Segment) (segments : List Segment) → IsTrue (ends_below t segments) → IsTrue (follow_from (first_of segments) segments) → IsTrue (follow_from t.first (t ∷ segments))
+pub follows : (t : Segment) (segments : List Segment) → IsTrue (ends_below t segments) → IsTrue (follow_from (first_of segments) segments) → IsTrue (follow_from t.first (t ∷ segments))
 follows t [] meets follow = and_from (eqb t.first t.first) true (eq-eqb t.first t.first refl) refl
 follows t (u ∷ segments) meets follow =
     and_from (eqb t.first t.first) (follow_from (end_of t) (u ∷ segments)) (eq-eqb t.first t.first refl)

@@ -1,16 +1,21 @@
 -- What is wrong first with the files of a store, from the one with the greatest number down. A relation on whole images.
-use Rattle.std.specs.Prelude.{◌≡◌, ◌⊎◌, ℕ, ◌-◌, Bool, true, not, ◌==◌, nat_lt, List, [], ◌∷◌, ◌++◌, IsTrue, Option, Some, None}
+use Rattle.std.specs.Prelude.{◌≡◌, ◌⊎◌, ℕ, ◌-◌, ◌<◌, All, Bool, true, not, ◌==◌, nat_lt, List, [], ◌∷◌, ◌++◌, IsTrue, Option, Some, None}
 use Rattle.std.specs.FinMap.Entries.{is_sorted}
 use Rattle.std.specs.Ordering.{nat_cmp}
 use Rattle.std.specs.List.{list_all, AllZip}
 use Rattle.frs_types.specs.declared.record.Record.{Record}
 use Rattle.frs_types.specs.Records.{named_lowest}
+use Rattle.frs_disk.specs.Disk.{IsNumber}
 use Rattle.frs_segment.specs.declared.fault.ScanFault.{ScanFault}
 use Rattle.frs_segment.specs.declared.fault.ScanFault.TheVariants as scan
 use Rattle.frs_segment.specs.Segments.{File, Image, Segment, IsSegment, open_files, all_records, end_of, first_of, follow_from, are_enough}
 use Rattle.frs_segment.specs.Scanning.{IsRefused}
 use Rattle.frs_recovery.specs.declared.fault.RecoverFault.{RecoverFault}
 use Rattle.frs_recovery.specs.declared.fault.RecoverFault.TheVariants.{BadHeader, BadChunk, Gap, NumberLimit}
+
+-- a file as a disk has it: a segment's number, and bytes
+abbrev pub IsStored : File → Type 0
+IsStored file = IsNumber file.0 × All (λ b. b < 256) file.1
 
 -- ---- the files that hold
 

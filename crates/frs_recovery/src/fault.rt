@@ -30,7 +30,8 @@ pub enum RecoverFault {
     Gap {
         /// The LSN of the record that should stand before those that are there.
         expected: u64,
-        /// The LSN of the last record that was found below them, or 0 where no file is left.
+        /// The LSN of the last record of the segment below them, or the LSN before that segment's first where it has no
+        /// record, or 0 where no file is left.
         found: u64,
     },
     /// An LSN is 2^62 or more.

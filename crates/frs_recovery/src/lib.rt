@@ -15,4 +15,6 @@ pub use reading::recover;
 pub use recovered::{Entries, Recovered};
 
 #[cfg(test)]
+mod fault_tests;
+#[cfg(test)]
 mod tests;

@@ -51,7 +51,7 @@ pub struct Recovered {
     pub entries: Entries,
     /// What was found in its files.
     pub found: Found,
-    /// The lowest LSN that is still needed: the least of the entries' LSNs, of the begins of transactions that are
-    /// neither committed nor abandoned, and of the next LSN.
+    /// The lowest LSN that is still needed: the least of the entries' LSNs, of the begins that no later commit, abandon or
+    /// mark ends, and of the next LSN.
     pub lowest: u64,
 }

@@ -30,6 +30,12 @@ const HALF_MADE: [u8; 23] = [
     0, 70, 82, 83, 83, 1, 0, 0, 0, 0, 0, 0, 0, 2, 0, 0, 0, 0, 0, 0, 0, 4, 0,
 ];
 
+// The header of segment 1 behind a closed gate, and the closed gate of its first chunk: the file as it is before its gate
+// is opened.
+const GATE_CLOSED: [u8; 23] = [
+    0, 70, 82, 83, 83, 1, 0, 0, 0, 0, 0, 0, 0, 1, 0, 0, 0, 0, 0, 0, 0, 1, 0,
+];
+
 // Segment 1 whose first LSN is 2^62 - 1, with a mark that carries this number as its lowest.
 const LAST_LSN: [u8; 65] = [
     1, 70, 82, 83, 83, 1, 0, 0, 0, 0, 0, 0, 0, 1, 63, 255, 255, 255, 255, 255, 255, 255, 1, 0, 0,
@@ -360,19 +366,8 @@ fn cut_files(rt: HostRuntime) -> Result<(), Fail> {
     let alloc = rt.alloc();
     let fault = refusal(alloc, one(alloc, 1, cut(alloc, 100)?)?)?;
     assert_eq!(rt; fault, Some(chunk(64)));
-    let found = Numbered {
-        segments: &[],
-        half: &[1],
-        older: &[],
-        greatest: 1,
-    };
-    expect_store(
-        &rt,
-        alloc,
-        one(alloc, 1, cut(alloc, 22)?)?,
-        &NOTHING,
-        &found,
-    )?;
+    let files = one(alloc, 1, cut(alloc, 22)?)?;
+    expect_store(&rt, alloc, files, &NOTHING, &FIRST_HALF_MADE)?;
     Ok(())
 }
 
@@ -382,6 +377,108 @@ const FIRST_ALONE: Numbered = Numbered {
     older: &[],
     greatest: 1,
 };
+
+const FIRST_HALF_MADE: Numbered = Numbered {
+    segments: &[],
+    half: &[1],
+    older: &[],
+    greatest: 1,
+};
+
+// The whole segment up to the gate behind its put, which is closed, with this gate before the put.
+fn up_to_the_put(alloc: Global, gate: u8) -> Result<Vec<u8>, NoMemory> {
+    let mut bytes = changed(alloc, 64, gate)?;
+    bytes.truncate(113);
+    bytes.push(0)?;
+    Ok(bytes)
+}
+
+// A crash once the put's body is there: the gate before it, what is read back, and how many chunks the segment has.
+#[derive(Clone, Copy)]
+struct Crash {
+    gate: u8,
+    want: Want,
+    chunks: usize,
+}
+
+const BEFORE_THE_PUT: Want = Want {
+    entries: &[],
+    next: 2,
+    named: 1,
+    lowest: 2,
+};
+
+const AFTER_THE_PUT: Want = Want {
+    entries: PUT,
+    next: 3,
+    named: 2,
+    lowest: 2,
+};
+
+// A gate that isn't 1 is closed.
+const CRASHES: [Crash; 3] = [
+    Crash {
+        gate: 0,
+        want: BEFORE_THE_PUT,
+        chunks: 1,
+    },
+    Crash {
+        gate: 7,
+        want: BEFORE_THE_PUT,
+        chunks: 1,
+    },
+    Crash {
+        gate: 1,
+        want: AFTER_THE_PUT,
+        chunks: 2,
+    },
+];
+
+// Asserts how many chunks each segment that was found has.
+fn expect_chunks(rt: &impl Abort, answer: &Recovered, chunks: usize) {
+    for segment in answer.found.segments.segments() {
+        assert_eq!(rt; segment.chunks.places().len(), chunks);
+    }
+}
+
+// A run with one put crashed once the put's body was synced, before its gate was.
+#[test]
+fn crashes_at_the_gate_of_a_put(rt: HostRuntime) -> Result<(), Fail> {
+    let alloc = rt.alloc();
+    for crash in &CRASHES {
+        let files = one(alloc, 1, up_to_the_put(alloc, crash.gate)?)?;
+        let answer = whole(&rt, alloc, files)?;
+        expect(&rt, &answer, &crash.want);
+        expect_files(&rt, &answer, &[1], &[], &[], 1);
+        expect_chunks(&rt, &answer, crash.chunks);
+    }
+    Ok(())
+}
+
+// It crashed before the gate of the file was opened.
+#[test]
+fn a_crash_at_the_gate_of_the_file(rt: HostRuntime) -> Result<(), Fail> {
+    let alloc = rt.alloc();
+    let files = one(alloc, 1, Vec::from_slice(alloc, &GATE_CLOSED)?)?;
+    expect_store(&rt, alloc, files, &NOTHING, &FIRST_HALF_MADE)?;
+    Ok(())
+}
+
+// The whole segment, whose put's body has the greatest length that can be written.
+fn body_past_the_end(alloc: Global) -> Result<Vec<u8>, NoMemory> {
+    let mut bytes = cut(alloc, 65)?;
+    bytes.extend_from_slice(&[0xff, 0xff, 0xff, 0xff])?;
+    bytes.extend_from_slice(&WHOLE[69..])?;
+    Ok(bytes)
+}
+
+#[test]
+fn a_body_past_the_end(rt: HostRuntime) -> Result<(), Fail> {
+    let alloc = rt.alloc();
+    let fault = refusal(alloc, one(alloc, 1, body_past_the_end(alloc)?)?)?;
+    assert_eq!(rt; fault, Some(chunk(64)));
+    Ok(())
+}
 
 #[test]
 fn an_empty_store(rt: HostRuntime) -> Result<(), Fail> {
@@ -461,14 +558,8 @@ fn the_last_lsn(rt: HostRuntime) -> Result<(), Fail> {
 #[test]
 fn half_made_files(rt: HostRuntime) -> Result<(), Fail> {
     let alloc = rt.alloc();
-    let found = Numbered {
-        segments: &[],
-        half: &[1],
-        older: &[],
-        greatest: 1,
-    };
     let files = one(alloc, 1, Vec::from_slice(alloc, &[1])?)?;
-    expect_store(&rt, alloc, files, &NOTHING, &found)?;
+    expect_store(&rt, alloc, files, &NOTHING, &FIRST_HALF_MADE)?;
     let want = Want {
         entries: PUT,
         next: 4,
@@ -535,9 +626,7 @@ fn many_segments(rt: HostRuntime) -> Result<(), Fail> {
     };
     expect(&rt, &answer, &want);
     expect_files(&rt, &answer, &[1, 2, 3], &[], &[], 3);
-    for segment in answer.found.segments.segments() {
-        assert_eq!(rt; segment.chunks.places().len(), 3);
-    }
+    expect_chunks(&rt, &answer, 3);
     Ok(())
 }
 
