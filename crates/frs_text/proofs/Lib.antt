@@ -3,8 +3,12 @@ mod FoundLines
 mod Gathered
 mod JoinedWords
 mod Numbers
+mod OneHistory
 mod PlaceOrder
+mod Placed
+mod ReadsBack
 mod SaidLines
 mod ScriptLaw
+mod Solid
 mod StoreNumbers
 mod WordParts

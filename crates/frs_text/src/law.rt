@@ -1,12 +1,30 @@
-//! What holds of the numbers of all stores.
-ghost use Rattle.std.specs.Prelude.{◌≡◌, List};
+//! What holds of the numbers of all stores, and of all transcripts.
+ghost use Rattle.std.specs.Prelude.{◌≡◌, ℕ, List, map, IsTrue};
+ghost use Rattle.std.specs.List.{list_all};
 ghost use Rattle.frs_types.specs.Records.{Log};
 ghost use Rattle.frs_segment.specs.Segments.{Image, Segment};
 ghost use Rattle.frs_recovery.specs.declared.recovered.Recovered.{Recovered};
 ghost use Rattle.frs_recovery.specs.Answers.{IsRecovered};
-ghost use Rattle.frs_text.specs.Text.{stat_of, stat_found};
+ghost use Rattle.frs_types.specs.Maps.{Maps};
+ghost use Rattle.frs_history.specs.declared.event.Ack.{Ack};
+ghost use Rattle.frs_history.specs.declared.event.Event.{Event};
+ghost use Rattle.frs_history.specs.Machine.{Scripts};
+ghost use Rattle.frs_history.specs.Scripts.{is_script};
+ghost use Rattle.frs_text.specs.Legible.{IsHistory, IsEnd, acked};
+ghost use Rattle.frs_text.specs.Text.{Text, line, transcript, stat_of, stat_found};
 
 /// The numbers of a store as it was read back are those of the log that its files spell.
 pub fn stat_of_store()
     ensures { (image : Image) (segments : List Segment) (log : Log) (r : Recovered) → IsRecovered image segments log r → stat_found r ≡ stat_of segments log }
+{}
+
+/// A text is the transcript of one history at most. Where two legal histories of the same scripts have the same
+/// transcript, from whatever maps each of them begins, they have the same events, acknowledgements of the same clients and
+/// lines, and the same end.
+pub fn one_history()
+    ensures { (scripts : Scripts) (maps other_maps : Maps) (last other_last : ℕ) (events other_events : List Event) (acks other_acks : List Ack) (words other_words : List Text)
+        → IsTrue (list_all is_script scripts) → IsHistory scripts maps last events acks → IsHistory scripts other_maps other_last other_events other_acks
+        → IsEnd words → IsEnd other_words
+        → transcript scripts events acks (line words) ≡ transcript scripts other_events other_acks (line other_words)
+        → (events ≡ other_events) × (map acked acks ≡ map acked other_acks) × (words ≡ other_words) }
 {}

@@ -21,7 +21,7 @@ mod words_fault;
 
 pub use command_line::read_words;
 pub use history_text::transcript;
-pub use law::stat_of_store;
+pub use law::{one_history, stat_of_store};
 pub use maps_text::dump;
 pub use numbers_text::stat_text;
 pub use plan::{FileNames, Job, PlainPlan, Plan, RunPlan};
