@@ -1,11 +1,10 @@
 -- One more record of a log.
-use Rattle.std.proofs.Common.{◌≡◌, ℕ, ◌+◌, ◌<◌, ◌≤◌, true, List, [], ◌∷◌, ◌++◌, length, Some, refl, sym, ◌∙◌, ap, subst, arith, length-append}
+use Rattle.std.proofs.Common.{◌≡◌, ◌⊎◌, ⊎_elim, ℕ, ◌+◌, ◌<◌, ◌≤◌, true, List, [], ◌∷◌, ◌++◌, length, Some, refl, sym, ◌∙◌, ap, subst, arith, length-append}
 use Rattle.std.specs.Prelude.{nat_lt, nat_le, nat_eq, ◌&&◌, unwrap_or, option_map}
 use Rattle.std.specs.List.{last_or}
 use Rattle.std.proofs.lemmas.Bool.{and_parts, and_from, eq-eqb, eqb-true, le-leb, lt-ltb}
 use Rattle.std.proofs.lemmas.List.{append-nil}
 use Rattle.std.proofs.lemmas.Grind.{flat_map-append}
-use Rattle.std.proofs.lemmas.List.Folds.{list_all-append}
 use Rattle.std.proofs.lemmas.List.Sums.{fold-append}
 use Rattle.std.specs.FinMap.Entries.{put}
 use Rattle.frs_types.specs.declared.record.Action.TheVariants as action
@@ -14,8 +13,9 @@ use Rattle.frs_types.specs.Maps.{Table, place_cmp}
 use Rattle.frs_types.specs.Records.{has_words, allowed, placed_from, named_lowest}
 use Rattle.frs_types.specs.Lawful.{Held, LogState, settled, after_record, state_after, are_lawful, is_lawful, lowest, named_at}
 use Rattle.frs_history.specs.Machine.{Changes}
-use Rattle.frs_engine.specs.Promise.{puts, puts_by, is_put_or_mark}
+use Rattle.frs_engine.specs.Promise.{puts, puts_by, are_of_run}
 use Rattle.frs_engine.specs.Session.{drawn, drawn_put, IsLog}
+use Rattle.frs_engine.proofs.RunRecords.{run_goes_on, run_begins}
 use Rattle.frs_engine.proofs.Tables.{lsns_below, lsns_wider, lsns-put, lsn_below, least-le, least-pos, least-each, least-ge, from-put}
 
 -- ---- lists of records
@@ -104,15 +104,15 @@ low_put t n id key value =
 
 module _ (rs : List Record) (t : Table Held) (n : ℕ) (log : IsLog rs t n) where
   pub log-push : (r : Record) (u : Table Held) → is_lawful (settled t n) r ≡ true → after_record (settled t n) r ≡ settled u (n + 1) → lsns_below (n + 1) u ≡ true
-      → lowest (settled t n) ≤ lowest (settled u (n + 1)) → is_put_or_mark r.action ≡ true → IsLog (rs ++ r ∷ []) u (n + 1)
-  log-push r u one after lsns rises kind =
+      → lowest (settled t n) ≤ lowest (settled u (n + 1)) → are_of_run (rs ++ r ∷ []) ≡ true → IsLog (rs ++ r ∷ []) u (n + 1)
+  log-push r u one after lsns rises kinds =
       let lawful : is_lawful (state_after (settled [] 1) rs) r ≡ true = subst (λ (s : LogState). is_lawful s r ≡ true) (sym log.state) one in
       let tests = and_parts (allowed n r) (nat_eq r.lowest (lowest (settled t n))) (and_parts (allowed n r && nat_eq r.lowest (lowest (settled t n))) _ one).0 in
       let here : allowed (1 + length rs) r ≡ true = subst (λ (k : ℕ). allowed k r ≡ true) (omega (arith, log.count)) tests.0 in
       let low : r.lowest ≡ lowest (settled t n) = eqb-true r.lowest (lowest (settled t n)) tests.1 in
       record {
         lawful = lawful-push (settled [] 1) rs r log.lawful lawful;
-        kinds = list_all-append (λ (x : Record). is_put_or_mark x.action) rs (r ∷ []) ∙ and_from _ _ log.kinds (and_from _ _ kind refl);
+        kinds = kinds;
         state = fold-append after_record (settled [] 1) rs (r ∷ []) ∙ ap (λ (s : LogState). after_record s r) log.state ∙ after;
         count = omega (arith, log.count, length-append rs (r ∷ []));
         placed = placed-push 0 1 rs r log.placed here (omega (arith, last_named rs, log.named, low));
@@ -123,14 +123,17 @@ module _ (rs : List Record) (t : Table Held) (n : ℕ) (log : IsLog rs t n) wher
   pos : 0 < n
   pos = omega (arith, log.count)
 
-  pub log-put : (id key value : List ℕ) → has_words (action.Put id key value) ≡ true
+  pub log-put : (id key value : List ℕ) → has_words (action.Put id key value) ≡ true → length rs ≡ length (puts rs) + 1
       → IsLog (rs ++ drawn_put t n id key value ∷ []) (put place_cmp (id, key) (record { value = value; lsn = n }) t) (n + 1)
-  log-put id key value words =
+  log-put id key value words one =
       log-push (drawn_put t n id key value) (put place_cmp (id, key) (record { value = value; lsn = n }) t)
-      (put_lawful t n pos log.lsns id key value words) refl (lsns-put (id, key) value n t pos log.lsns) (low_put t n id key value) refl
+      (put_lawful t n pos log.lsns id key value words) refl (lsns-put (id, key) value n t pos log.lsns) (low_put t n id key value)
+      (run_goes_on rs (drawn_put t n id key value) log.kinds one refl)
 
-  pub log-mark : IsLog (rs ++ drawn t n 0 action.Mark ∷ []) t (n + 1)
-  log-mark = log-push (drawn t n 0 action.Mark) t (mark_lawful t n pos log.lsns) refl (lsns_wider t n (n + 1) (omega arith) log.lsns) (low_later t n) refl
+  pub log-mark : (rs ≡ []) ⊎ (length rs ≡ length (puts rs) + 1) → IsLog (rs ++ drawn t n 0 action.Mark ∷ []) t (n + 1)
+  log-mark so_far =
+      log-push (drawn t n 0 action.Mark) t (mark_lawful t n pos log.lsns) refl (lsns_wider t n (n + 1) (omega arith) log.lsns) (low_later t n)
+      (⊎_elim (λ none. run_begins rs (drawn t n 0 action.Mark) none refl) (λ one. run_goes_on rs (drawn t n 0 action.Mark) log.kinds one refl) so_far)
 
 -- the log of a store without a record
 pub log_start : IsLog [] [] 1

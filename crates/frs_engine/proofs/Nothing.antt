@@ -13,7 +13,7 @@ pub entries_empty : entries {X = List ℕ} {R = nat_cmp} empty ≡ []
 entries_empty = ap (λ (i : Image). entries i) (sym image_of-none) ∙ entries-from_sorted nat_cmp [] tt
 
 -- no numbers, no files
-none_by_map : {A B : Type 0} (f : A → B) (xs : List A) → map f xs ≡ [] → xs ≡ []
+pub none_by_map : {A B : Type 0} (f : A → B) (xs : List A) → map f xs ≡ [] → xs ≡ []
 none_by_map f [] is = refl
 none_by_map f (x ∷ xs) is = absurd (cc)
 

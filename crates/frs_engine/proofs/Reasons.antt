@@ -5,6 +5,8 @@ use Rattle.std.specs.FinMap.{keys}
 use Rattle.std.proofs.lemmas.Option.{same_Some}
 use Rattle.frs_history.specs.declared.command.Line.{Line}
 use Rattle.frs_history.specs.declared.event.Event.{Event}
+use Rattle.frs_disk.specs.declared.disk.Fault.{Fault}
+use Rattle.frs_disk.specs.declared.disk.Fault.TheVariants as faults
 use Rattle.frs_disk.specs.Disk.{Image, Rose}
 use Rattle.frs_text.specs.declared.plan.RunPlan.{RunPlan}
 use Rattle.frs_text.specs.declared.plan.RunPlan.TheVariants.{Scripts, Demo}
@@ -13,7 +15,7 @@ use Rattle.frs_text.specs.declared.script_fault.ScriptFault.TheVariants as scrip
 use Rattle.frs_engine.specs.declared.report.Ending.{Ending}
 use Rattle.frs_engine.specs.declared.report.Ending.TheVariants.{Closed, Bad, Long, Disk, Unread, Past, Crowded, Memory, Later}
 use Rattle.frs_engine.specs.Causes.{one_file, bytes_of_plan, ending_of_plan, HasOthers, IsForLater, Spells, IsUnread, IsNotYet, IsCause, IsEndOfRun}
-use Rattle.frs_engine.specs.Endings.{parsed, ending_by, status_of}
+use Rattle.frs_engine.specs.Endings.{parsed, ending_by, ending_of_stop, status_of}
 use Rattle.frs_engine.specs.Promise.{has_puts_and_gets}
 use Rattle.frs_engine.specs.Runs.{Answers, IsSteady, is_status}
 
@@ -99,23 +101,30 @@ pub run_cause : (plan : RunPlan) (told : Bool) (bytes : Option (List ℕ)) (rose
 run_cause plan told bytes rose failed listed lines events Closed ends fails lists spells = spells
 run_cause plan told bytes rose failed listed lines events Disk ends fails lists spells = (fails refl, spells)
 run_cause plan told bytes rose failed listed lines events Memory ends fails lists spells = inr spells
-run_cause plan told bytes rose failed listed lines events Later ends fails lists spells = inr (inr (λ t. let (f, is, ok) = spells t in (f, lines, is, ok), lists refl))
+run_cause plan told bytes rose failed listed lines events Later ends fails lists spells = inr (inr (λ t. let (f, is, ok, simple) = spells t in (f, lines, is, ok), lists refl))
 run_cause plan told bytes rose failed listed lines events (Bad n) ends fails lists spells = absurd ends
 run_cause plan told bytes rose failed listed lines events (Long n) ends fails lists spells = absurd ends
 run_cause plan told bytes rose failed listed lines events Unread ends fails lists spells = absurd ends
 run_cause plan told bytes rose failed listed lines events (Past n) ends fails lists spells = absurd ends
 run_cause plan told bytes rose failed listed lines events (Crowded n) ends fails lists spells = absurd ends
 
-pub run_later : (e : Ending) → IsEndOfRun e → (status_of e ≡ 10) ⊎ (status_of e ≡ 5) ⊎ (status_of e ≡ 2) ⊎ (status_of e ≡ 8) → e ≡ Later
-run_later Closed ends is = absurd (⊎_elim (λ a. omega (arith, a)) (λ r. ⊎_elim (λ a. omega (arith, a)) (λ q. ⊎_elim (λ a. omega (arith, a)) (λ a. omega (arith, a)) q) r) is)
-run_later Disk ends is = absurd (⊎_elim (λ a. omega (arith, a)) (λ r. ⊎_elim (λ a. omega (arith, a)) (λ q. ⊎_elim (λ a. omega (arith, a)) (λ a. omega (arith, a)) q) r) is)
-run_later Memory ends is = absurd (⊎_elim (λ a. omega (arith, a)) (λ r. ⊎_elim (λ a. omega (arith, a)) (λ q. ⊎_elim (λ a. omega (arith, a)) (λ a. omega (arith, a)) q) r) is)
-run_later Later ends is = refl
-run_later (Bad n) ends is = absurd ends
-run_later (Long n) ends is = absurd ends
-run_later Unread ends is = absurd ends
-run_later (Past n) ends is = absurd ends
-run_later (Crowded n) ends is = absurd ends
+-- a run that was begun doesn't end as one whose script wasn't read
+pub run_unread : (e : Ending) → IsEndOfRun e → (status_of e ≡ 2) ⊎ (status_of e ≡ 5) ⊎ (status_of e ≡ 8) → ⊥
+run_unread Closed ends is = ⊎_elim (λ a. omega (arith, a)) (λ r. ⊎_elim (λ a. omega (arith, a)) (λ a. omega (arith, a)) r) is
+run_unread Disk ends is = ⊎_elim (λ a. omega (arith, a)) (λ r. ⊎_elim (λ a. omega (arith, a)) (λ a. omega (arith, a)) r) is
+run_unread Memory ends is = ⊎_elim (λ a. omega (arith, a)) (λ r. ⊎_elim (λ a. omega (arith, a)) (λ a. omega (arith, a)) r) is
+run_unread Later ends is = ⊎_elim (λ a. omega (arith, a)) (λ r. ⊎_elim (λ a. omega (arith, a)) (λ a. omega (arith, a)) r) is
+run_unread (Bad n) ends is = ends
+run_unread (Long n) ends is = ends
+run_unread Unread ends is = ends
+run_unread (Past n) ends is = ends
+run_unread (Crowded n) ends is = ends
+
+-- nor for what stopped it
+pub stop_not_later : (stop : Option Fault) → ending_of_stop stop ≡ Later → ⊥
+stop_not_later None is = let no : Closed ≡ Later = is in cc
+stop_not_later (Some faults.Failed) is = let no : Disk ≡ Later = is in cc
+stop_not_later (Some faults.Memory) is = let no : Memory ≡ Later = is in cc
 
 -- ---- the status that is answered
 
@@ -144,9 +153,6 @@ known_status e status before now answers = ⊎_elim (λ same. ap is_status same 
 -- ---- which cause a status has
 
 module _ (plan : RunPlan) (told : Bool) (file : List ℕ → Option (List ℕ)) (rose failed listed : Type 0) (lines : List Line) (events : List Event) where
-  cause : Ending → Type 0
-  cause e = IsCause plan told (bytes_of_plan plan file) rose failed listed lines events e
-
   pub bad_cause : (e : Ending) → IsCause plan told (bytes_of_plan plan file) rose failed listed lines events e → status_of e ≡ 2 → IsTrue told
       → (f : List ℕ) × (line : ℕ) × (bytes_of_plan plan file ≡ Some f) × ((parsed f ≡ Err (script.BadLine line)) ⊎ (parsed f ≡ Err (script.TooLong line)))
   bad_cause (Bad n) c is t = let (f, some, err) = c t in (f, n, some, inl err)
@@ -209,10 +215,10 @@ module _ (plan : RunPlan) (told : Bool) (file : List ℕ → Option (List ℕ)) 
   -- a file that is refused
   pub refused_ending : (e : Ending) → IsCause plan told (bytes_of_plan plan file) rose failed listed lines events e → IsTrue told → (f : List ℕ) (fault : ScriptFault) → bytes_of_plan plan file ≡ Some f → parsed f ≡ Err fault
       → (e ≡ ending_by fault) ⊎ (status_of e ≡ 9) ⊎ (status_of e ≡ 5)
-  refused_ending Closed c t f fault is err = let (g, some, ok) = c t in absurd (not_both (bytes_of_plan plan file) g f lines fault some ok is err)
+  refused_ending Closed c t f fault is err = let (g, some, ok, simple) = c t in absurd (not_both (bytes_of_plan plan file) g f lines fault some ok is err)
   refused_ending (Bad n) c t f fault is err = let (g, some, wrong) = c t in inl (ap ending_by (same_fault (bytes_of_plan plan file) g f (script.BadLine n) fault some wrong is err))
   refused_ending (Long n) c t f fault is err = let (g, some, wrong) = c t in inl (ap ending_by (same_fault (bytes_of_plan plan file) g f (script.TooLong n) fault some wrong is err))
-  refused_ending Disk c t f fault is err = let (g, some, ok) = c.1 t in absurd (not_both (bytes_of_plan plan file) g f lines fault some ok is err)
+  refused_ending Disk c t f fault is err = let (g, some, ok, simple) = c.1 t in absurd (not_both (bytes_of_plan plan file) g f lines fault some ok is err)
   refused_ending Unread c t f fault is err = inr (inr refl)
   refused_ending (Past n) c t f fault is err = let (g, some, wrong) = c t in inl (ap ending_by (same_fault (bytes_of_plan plan file) g f (script.TooMany n) fault some wrong is err))
   refused_ending (Crowded n) c t f fault is err = absurd (some_bytes plan file f c.0 is)
@@ -258,6 +264,17 @@ pub risen : (before now : ℕ) → IsSteady before now → Rose before now → �
 risen before now steady rose = omega (arith, steady.0, steady.1, rose)
 
 -- ---- what is answered
+
+pub ten_later : (e : Ending) → status_of e ≡ 10 → e ≡ Later
+ten_later Later is = refl
+ten_later (Bad n) is = absurd (omega (arith, is))
+ten_later (Long n) is = absurd (omega (arith, is))
+ten_later Closed is = absurd (omega (arith, is))
+ten_later Disk is = absurd (omega (arith, is))
+ten_later Unread is = absurd (omega (arith, is))
+ten_later (Past n) is = absurd (omega (arith, is))
+ten_later (Crowded n) is = absurd (omega (arith, is))
+ten_later Memory is = absurd (omega (arith, is))
 
 pub zero_closed : (e : Ending) → status_of e ≡ 0 → e ≡ Closed
 zero_closed Closed is = refl
@@ -319,6 +336,19 @@ module _ (e : Ending) (status before now : ℕ) (answers : Answers (status_of e)
       ⊎_elim (λ closed. absurd (not_closed both.1 closed)) (λ a. ⊎_elim (λ is. three (ap status_of is)) (λ b. ⊎_elim (λ is. five (ap status_of is)) (λ d. ⊎_elim (λ is. nine (ap status_of is)) (λ is. ten (ap status_of is)) d) b) a)
       (script_ending plan told file rose failed listed lines events e c t f s some ok)) rest)
       later
+
+  -- a script that can't be run yet
+  pub others_put_off : (e ≡ Later) ⊎ (e ≡ Unread) ⊎ (e ≡ Memory) → (status ≡ 10) ⊎ (status ≡ 9) ⊎ (status ≡ 5)
+  others_put_off ends = ⊎_elim
+      (λ is. ⊎_elim (λ same. inl same) (λ memory. inr (inl memory)) (settled_at 10 (ap status_of is) (λ zero. omega (arith, zero))))
+      (λ rest. ⊎_elim
+      (λ is. ⊎_elim (λ same. inr (inr same)) (λ memory. inr (inl memory)) (settled_at 5 (ap status_of is) (λ zero. omega (arith, zero))))
+      (λ is. ⊎_elim (λ same. inr (inl same)) (λ memory. inr (inl memory)) (settled_at 9 (ap status_of is) (λ zero. omega (arith, zero)))) rest)
+      ends
+
+  -- a status that isn't this one, nor that of want of memory, wasn't decided so
+  pub not_decided : (k : ℕ) → (k ≡ 0 → ⊥) → status ≢ k → status ≢ 9 → status_of e ≡ k → ⊥
+  not_decided k some other memory is = ⊎_elim other memory (settled_at k is some)
 
   pub whole_answered : IsSteady before now → (e ≡ Closed) ⊎ (status_of e ≡ 9) → (status ≡ 0) ⊎ (status ≡ 9)
   whole_answered steady ends = ⊎_elim

@@ -6,7 +6,7 @@ use Rattle.frs_history.specs.declared.event.Event.{Event}
 use Rattle.frs_engine.specs.Promise.{Tells}
 
 none_told : (script : List Line) → Tells script [] []
-none_told script = record { legal = refl; rest = []; told = refl; but_last = omega arith }
+none_told script = record { legal = refl; own = refl; rest = []; told = refl; but_last = omega arith }
 
 pub nothing_told : (script : List Line) (events : List Event) (acks : List Ack) → events ≡ [] → acks ≡ [] → Tells script events acks
 nothing_told script events acks no_events no_acks =

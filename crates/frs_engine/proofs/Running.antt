@@ -1,5 +1,5 @@
 -- A run from one answer to the next, and from one record to the next.
-use Rattle.std.proofs.Common.{◌≡◌, ⊎_elim, ℕ, ◌+◌, Bool, true, List, [], ◌∷◌, ◌++◌, length, Option, Some, None, refl, sym, ◌∙◌, ap, subst, arith, IsTrue, length-append}
+use Rattle.std.proofs.Common.{◌≡◌, ◌⊎◌, inl, inr, ⊎_elim, ℕ, ◌+◌, Bool, true, List, [], ◌∷◌, ◌++◌, length, Option, Some, None, refl, sym, ◌∙◌, ap, subst, arith, IsTrue, length-append}
 use Rattle.std.specs.Prelude.{nat_le, ◌&&◌, is_some, is_none, slice_get, option_map}
 use Rattle.std.specs.List.{list_all}
 use Rattle.std.proofs.lemmas.Bool.{and_from, le-leb}
@@ -27,12 +27,13 @@ use Rattle.frs_engine.specs.declared.journal.Journal.{Journal}
 use Rattle.frs_engine.specs.declared.session.Run.{Run}
 use Rattle.frs_engine.specs.Entries.{table}
 use Rattle.frs_engine.specs.Journal.{LeftNoFile, HoldsOneMore}
-use Rattle.frs_engine.specs.Promise.{commits_of_run, owed_acks, puts, puts_by, Tells, Shows, ShowsPuts, ShowsAcked, ShowsAll, Completes, is_whole_in}
+use Rattle.frs_engine.specs.Promise.{commits_of_run, owed_acks, puts, puts_by, is_own, Tells, Shows, ShowsPuts, ShowsAcked, ShowsAll, Completes, is_whole_in}
 use Rattle.frs_engine.specs.Session.{drawn, drawn_put, state_at, answer, IsLog, IsAnswered, IsReady, IsToldAlike, IsFresh, commits_so_far, Extends}
 use Rattle.frs_writer.specs.Writing.{HoldsAll}
 use Rattle.std.specs.FinMap.{entries}
 use Rattle.frs_engine.proofs.Answering.{put_run, put_commits, put_owed, get_run, get_commits, get_owed, acks_within}
 use Rattle.frs_engine.proofs.Logging.{log_start, puts-push, log-put, log-mark}
+use Rattle.frs_engine.proofs.Nothing.{none_by_map}
 use Rattle.frs_engine.proofs.Showing.{records_show}
 use Rattle.frs_engine.proofs.Tables.{find-plain, plain-put}
 
@@ -41,6 +42,7 @@ use Rattle.frs_engine.proofs.Tables.{find-plain, plain-put}
 pub answered_tells : (rs : List Record) (r : Run) → IsAnswered rs r → Tells r.script.now r.events.items r.acks.items
 answered_tells rs r a = record {
   legal = ap is_some a.machine;
+  own = a.own;
   rest = [];
   told = append-nil r.acks.items ∙ a.acks;
   but_last = omega arith;
@@ -54,6 +56,11 @@ module _ {D : Type 0} (tells : D → Bool) (reads : D → Image) (may_leave : D 
   -- the records are as many as were drawn
   pub ready_drawn : length ready.records ≡ length j.drawer.drawn
   ready_drawn = sym (ap length ready.written.drawn.drawn ∙ length-map ready.records spelling)
+
+  -- there is no record yet, or all but one are puts
+  pub ready_open : (j.drawer.drawn ≡ []) ⊎ (length j.drawer.drawn ≡ length r.acks.items + 1) → (ready.records ≡ []) ⊎ (length ready.records ≡ length (puts ready.records) + 1)
+  ready_open (inl none) = inl (none_by_map spelling ready.records (sym ready.written.drawn.drawn ∙ none))
+  ready_open (inr one) = inr (omega (arith, ready_drawn, one, ready.answered.counted))
 
   module _ (told : IsTrue (tells j.writer.disk)) (none : LeftNoFile may_leave j.writer.opened) (c : Image) (left : may_leave j.writer.disk c) where
     ready_holds : HoldsAll (entries c) ready.records
@@ -97,9 +104,6 @@ one_longer rs r = omega (arith, length-append rs (r ∷ []))
 -- ---- a mark
 
 module _ (rs : List Record) (run : Run) (a : IsAnswered rs run) (n : ℕ) (next : n ≡ length rs + 1) where
-  mark : Record
-  mark = drawn (table run.entries.items) n 0 action.Mark
-
   mark_puts : puts (rs ++ drawn (table run.entries.items) n 0 action.Mark ∷ []) ≡ puts rs
   mark_puts = puts-push rs (drawn (table run.entries.items) n 0 action.Mark) ∙ append-nil (puts rs)
 
@@ -109,17 +113,18 @@ module _ (rs : List Record) (run : Run) (a : IsAnswered rs run) (n : ℕ) (next 
   pub mark_after : commits_so_far run ≡ each_alone (puts (rs ++ drawn (table run.entries.items) n 0 action.Mark ∷ []))
   mark_after = a.commits ∙ ap each_alone (sym mark_puts)
 
-  pub mark_log : IsLog (rs ++ drawn (table run.entries.items) n 0 action.Mark ∷ []) (table run.entries.items) (length rs + 1 + 1)
-  mark_log =
+  pub mark_log : (rs ≡ []) ⊎ (length rs ≡ length (puts rs) + 1) → IsLog (rs ++ drawn (table run.entries.items) n 0 action.Mark ∷ []) (table run.entries.items) (length rs + 1 + 1)
+  mark_log so_far =
       subst (λ (k : ℕ). IsLog (rs ++ drawn (table run.entries.items) k 0 action.Mark ∷ []) (table run.entries.items) (length rs + 1 + 1)) (sym next)
-      (log-mark rs (table run.entries.items) (length rs + 1) a.log)
+      (log-mark rs (table run.entries.items) (length rs + 1) a.log so_far)
 
-  pub mark_answered : IsAnswered (rs ++ drawn (table run.entries.items) n 0 action.Mark ∷ []) run
-  mark_answered =
+  pub mark_answered : (rs ≡ []) ⊎ (length rs ≡ length (puts rs) + 1) → IsAnswered (rs ++ drawn (table run.entries.items) n 0 action.Mark ∷ []) run
+  mark_answered so_far =
       let r : Record = drawn (table run.entries.items) n 0 action.Mark in
       record {
-        log = log_at (rs ++ r ∷ []) _ _ _ _ refl (one_longer rs r) mark_log;
+        log = log_at (rs ++ r ∷ []) _ _ _ _ refl (one_longer rs r) (mark_log so_far);
         machine = a.machine;
+        own = a.own;
         commits = mark_after;
         acks = a.acks;
         within = acks_within (length rs) (length (rs ++ r ∷ [])) run.acks.items (omega (arith, length-append rs (r ∷ []))) a.within;
@@ -141,6 +146,9 @@ module _ (rs : List Record) (old new : Run) (a : IsAnswered rs old) (lsn : ℕ) 
       ap (λ (s : List Line). commits_of_run s new.events.items) (ap (λ s. s.now) script)
       ∙ ap (commits_of_run old.script.now) events
       ∙ put_commits old.script.now old.events.items (plain (table old.entries.items)) old.done n a.machine id key value next
+
+  put_own : list_all is_own new.events.items ≡ true
+  put_own = ap (list_all is_own) events ∙ list_all-append is_own old.events.items (answer n reply.Done ∷ []) ∙ and_from _ _ a.own refl
 
   pub put_extends : Extends (commits_so_far old) (commits_so_far new)
   put_extends = ((Set id key value ∷ []) ∷ [], put_commits_so_far)
@@ -166,16 +174,17 @@ module _ (rs : List Record) (old new : Run) (a : IsAnswered rs old) (lsn : ℕ) 
   pub put_tells : length rs ≡ length old.acks.items + 1 → new.acks.items ≡ old.acks.items → Tells new.script.now new.events.items new.acks.items
   put_tells marks acks = record {
     legal = ap is_some put_machine;
+    own = put_own;
     rest = record { client = 1; line = n; lsn = lsn } ∷ [];
     told = ap (λ (l : List Ack). l ++ record { client = 1; line = n; lsn = lsn } ∷ []) acks ∙ sym (put_acks marks);
     but_last = omega arith;
   }
 
-  pub put_log : has_words (action.Put id key value) ≡ true
+  pub put_log : length rs ≡ length old.acks.items + 1 → has_words (action.Put id key value) ≡ true
       → IsLog (rs ++ drawn_put (table old.entries.items) lsn id key value ∷ []) (put place_cmp (id, key) (record { value = value; lsn = lsn }) (table old.entries.items)) (length rs + 1 + 1)
-  put_log words =
+  put_log marks words =
       subst (λ (k : ℕ). IsLog (rs ++ drawn_put (table old.entries.items) k id key value ∷ []) (put place_cmp (id, key) (record { value = value; lsn = k }) (table old.entries.items)) (length rs + 1 + 1)) (sym drawn_next)
-      (log-put rs (table old.entries.items) (length rs + 1) a.log id key value words)
+      (log-put rs (table old.entries.items) (length rs + 1) a.log id key value words (omega (arith, marks, a.counted)))
 
   pub put_answered : length rs ≡ length old.acks.items + 1 → has_words (action.Put id key value) ≡ true
       → table new.entries.items ≡ put place_cmp (id, key) (record { value = value; lsn = lsn }) (table old.entries.items)
@@ -188,10 +197,11 @@ module _ (rs : List Record) (old new : Run) (a : IsAnswered rs old) (lsn : ℕ) 
       let long : length (rs ++ r ∷ []) ≡ length rs + 1 = length-append rs (r ∷ []) in
       let last : nat_le lsn (length (rs ++ r ∷ [])) ≡ true = le-leb lsn (length (rs ++ r ∷ [])) (omega (arith, long, drawn_next)) in
       record {
-        log = log_at (rs ++ r ∷ []) _ (table new.entries.items) _ _ (sym entries_are) (one_longer rs r) (put_log words);
+        log = log_at (rs ++ r ∷ []) _ (table new.entries.items) _ _ (sym entries_are) (one_longer rs r) (put_log marks words);
         machine = put_machine ∙ ap (λ (m : Maps). Some (state_at m (old.done + 1))) (sym (plain-put (id, key) held (table old.entries.items)))
             ∙ ap (λ (t : Table Held). Some (state_at (plain t) (old.done + 1))) (sym entries_are)
             ∙ ap (λ (k : ℕ). Some (state_at (plain (table new.entries.items)) k)) (sym done);
+        own = put_own;
         commits = put_after;
         acks = acks ∙ sym (put_acks marks);
         within = ap (list_all (λ (x : Ack). nat_le x.lsn (length (rs ++ r ∷ [])))) acks
@@ -219,6 +229,7 @@ module _ (rs : List Record) (old new : Run) (a : IsAnswered rs old) (n : ℕ) (i
             ∙ get_run old.script.now old.events.items (plain (table old.entries.items)) old.done n a.machine id key next
             ∙ ap (λ (t : Table Held). Some (state_at (plain t) (old.done + 1))) tables
             ∙ ap (λ (k : ℕ). Some (state_at (plain (table new.entries.items)) k)) (sym done);
+        own = ap (list_all is_own) events ∙ list_all-append is_own old.events.items (answer n r ∷ []) ∙ and_from _ _ a.own refl;
         commits = ap (λ (s : List Line). commits_of_run s new.events.items) lines
             ∙ ap (commits_of_run old.script.now) get_events
             ∙ get_commits old.script.now old.events.items (plain (table old.entries.items)) old.done n a.machine id key next
@@ -252,6 +263,7 @@ fresh_answered r f = record {
   log = log_at [] [] (table r.entries.items) 1 1 (ap table (sym f.entries)) refl log_start;
   machine = ap (run (r.script.now ∷ []) (start [] 0 1)) f.events ∙ ap (λ es. Some (state_at (plain (table es)) 0)) (sym f.entries)
       ∙ ap (λ (k : ℕ). Some (state_at (plain (table r.entries.items)) k)) (sym f.done);
+  own = ap (list_all is_own) f.events;
   commits = fresh_commits r f;
   acks = f.acks ∙ sym (ap (owed_acks r.script.now) f.events);
   within = ap (list_all (λ (x : Ack). nat_le x.lsn 0)) f.acks;

@@ -1,7 +1,6 @@
 -- What an image shows of the commits, from the records that it holds.
 use Rattle.std.proofs.Common.{◌≡◌, ℕ, List, [], ◌∷◌, ◌++◌, length, take, refl, sym, ◌∙◌, ap, subst, arith, length-append}
 use Rattle.std.specs.Prelude.{fold}
-use Rattle.std.specs.List.{list_all}
 use Rattle.std.specs.FinMap.{entries}
 use Rattle.std.proofs.lemmas.List.{length-map, take-append-le}
 use Rattle.frs_types.specs.declared.record.Record.{Record}
@@ -13,7 +12,7 @@ use Rattle.frs_history.specs.Histories.{each_alone}
 use Rattle.frs_history.specs.Machine.{Changes}
 use Rattle.frs_segment.specs.Segments.{File}
 use Rattle.frs_writer.specs.Writing.{HoldsAll}
-use Rattle.frs_engine.specs.Promise.{puts, is_put_or_mark, ShowsPuts, Shows, ShowsAcked}
+use Rattle.frs_engine.specs.Promise.{puts, are_of_run, ShowsPuts, Shows, ShowsAcked}
 use Rattle.frs_engine.specs.Session.{IsLog, Extends}
 
 -- ---- more commits
@@ -51,7 +50,7 @@ records_show c rs t n commits more log is holds = record {
   follow = holds.follow;
   newest = ap length holds.shown;
   lawful = subst (Lawful [] 1) (sym holds.shown) log.lawful;
-  kinds = ap (list_all (λ (r : Record). is_put_or_mark r.action)) holds.shown ∙ log.kinds;
+  kinds = ap are_of_run holds.shown ∙ log.kinds;
   count = ap (λ (l : List Record). length (puts l)) holds.shown;
   known = omega (arith, ap length is, length-append (each_alone (puts rs)) more, length-map (puts rs) (λ (x : Change (List ℕ)). x ∷ []));
   maps = ap (λ (l : List Record). changed_by [] (puts l)) holds.shown ∙ sym (each_after [] (puts rs) more) ∙ ap (λ (cs : List Changes). After [] cs (length (puts rs))) (sym is);

@@ -62,7 +62,7 @@ IsUnread plan told bytes failed Later = ((one_file plan ≡ None) × (ending_of_
 
 -- the bytes spell this script, of puts and gets alone
 abbrev pub Spells : Option (List ℕ) → List Line → Type 0
-Spells bytes script = (file : List ℕ) × (bytes ≡ Some file) × (parsed file ≡ Ok script)
+Spells bytes script = (file : List ℕ) × (bytes ≡ Some file) × (parsed file ≡ Ok script) × IsTrue (has_puts_and_gets script)
 
 -- Why a run isn't built yet: by its plan, by its script, or since the disk lists a file.
 abbrev pub IsNotYet : RunPlan → Bool → Option (List ℕ) → Type 0 → Type 0

@@ -1,5 +1,5 @@
 -- The promise of a run of one script of puts and gets on an empty store.
-use Rattle.std.specs.Prelude.{◌≡◌, ℕ, ◌+◌, ◌≤◌, Bool, true, false, not, ◌&&◌, nat_le, List, [], ◌∷◌, ◌++◌, flat_map, length, Option, Some, None, IsTrue, is_none}
+use Rattle.std.specs.Prelude.{◌≡◌, ℕ, ◌+◌, ◌≤◌, Bool, true, false, not, ◌&&◌, ◌||◌, ◌==◌, nat_le, List, [], ◌∷◌, ◌++◌, flat_map, length, Option, Some, None, IsTrue, is_none}
 use Rattle.std.specs.List.{AllZip, list_all}
 use Rattle.std.specs.FinMap.{entries}
 use Rattle.frs_types.specs.declared.record.Action.{Action}
@@ -42,10 +42,15 @@ acks_from n (e ∷ es) = record { client = e.client; line = e.line; lsn = n } �
 abbrev pub owed_acks : List Line → List Event → List Ack
 owed_acks script events = acks_from 2 (owed (moments (script ∷ []) (start [] 0 1) events))
 
--- The events are a legal history of the script from no maps. The puts are acknowledged in their order, each once,
--- and all but at most the last.
+-- it is the one client's
+abbrev pub is_own : Event → Bool
+is_own e = e.client == 1
+
+-- The events are a legal history of the script from no maps, and all of them are the client's. The puts are acknowledged
+-- in their order, each once, and all but at most the last.
 pub record Tells (script : List Line) (events : List Event) (acks : List Ack) : Type 0 where
   pub legal : Legal [] 0 (script ∷ []) events
+  pub own : IsTrue (list_all is_own events)
   pub rest : List Ack
   pub told : acks ++ rest ≡ owed_acks script events
   pub but_last : length rest ≤ 1
@@ -68,21 +73,41 @@ puts_by other = []
 abbrev pub puts : List Record → Changes
 puts rs = flat_map (λ (r : Record). puts_by r.action) rs
 
-abbrev pub is_put_or_mark : Action → Bool
-is_put_or_mark (action.Put id key value) = true
-is_put_or_mark action.Mark = true
-is_put_or_mark other = false
+abbrev pub is_put_action : Action → Bool
+is_put_action (action.Put id key value) = true
+is_put_action other = false
 
--- The open files are segments that follow each other from LSN 1 on. Their newest LSN is n, their records are puts and
--- marks, lawful from an empty store on, and their j put records, applied oldest first, are the maps after the first j
--- commits, of which there are so many. A half-made file shows no record.
+abbrev pub is_mark_action : Action → Bool
+is_mark_action action.Mark = true
+is_mark_action other = false
+
+abbrev pub is_put : Record → Bool
+is_put r = is_put_action r.action
+
+abbrev pub is_mark : Record → Bool
+is_mark r = is_mark_action r.action
+
+-- puts, and behind them at most one mark
+abbrev pub are_puts : List Record → Bool
+are_puts [] = true
+are_puts (r ∷ []) = is_put r || is_mark r
+are_puts (r ∷ rs) = is_put r && are_puts rs
+
+-- The records of one run, as far as it has come: the mark of its opening, its puts, and the mark of its close.
+abbrev pub are_of_run : List Record → Bool
+are_of_run [] = true
+are_of_run (r ∷ rs) = is_mark r && are_puts rs
+
+-- The open files are segments that follow each other from LSN 1 on. Their newest LSN is n, their records are those of one
+-- run as far as it has come, lawful from an empty store on, and their j put records, applied oldest first, are the maps
+-- after the first j commits, of which there are so many. A half-made file shows no record.
 pub record ShowsPuts (files : List File) (commits : List Changes) (n j : ℕ) : Type 0 where
   pub segments : List Segment
   pub each : AllZip IsSegment (open_files files) segments
   pub follow : IsTrue (follow_from 1 segments)
   pub newest : length (all_records segments) ≡ n
   pub lawful : Lawful [] 1 (all_records segments)
-  pub kinds : IsTrue (list_all (λ (r : Record). is_put_or_mark r.action) (all_records segments))
+  pub kinds : IsTrue (are_of_run (all_records segments))
   pub count : length (puts (all_records segments)) ≡ j
   pub known : j ≤ length commits
   pub maps : changed_by [] (puts (all_records segments)) ≡ After [] commits j
@@ -95,7 +120,7 @@ Shows commits image = (n : ℕ) × (j : ℕ) × ShowsPuts (entries image) commit
 abbrev pub ShowsAcked : List Changes → List Ack → Image → Type 0
 ShowsAcked commits acks image = (n : ℕ) × (j : ℕ) × IsTrue (list_all (λ (a : Ack). nat_le a.lsn n) acks) × (length acks ≤ j) × ShowsPuts (entries image) commits n j
 
--- the same, with every commit, and with two marks beside its put records: those of the opening and of the close
+-- the same, with every commit, and with both marks: that of the opening, and that of the close behind the puts
 abbrev pub ShowsAll : List Changes → Image → Type 0
 ShowsAll commits image = ShowsPuts (entries image) commits (length commits + 2) (length commits)
 

@@ -3,7 +3,7 @@ use Rattle.std.specs.Prelude.{◌≡◌, ◌≢◌, ◌⊎◌, ℕ, ◌-◌, ◌
 use Rattle.frs_history.specs.declared.command.Line.{Line}
 use Rattle.frs_history.specs.declared.event.Ack.{Ack}
 use Rattle.frs_history.specs.declared.event.Event.{Event}
-use Rattle.frs_disk.specs.Disk.{Image, Rose}
+use Rattle.frs_disk.specs.Disk.{Image, Keeps, Rose, Within}
 use Rattle.frs_text.specs.Text.{Text}
 use Rattle.frs_text.specs.declared.plan.RunPlan.{RunPlan}
 use Rattle.frs_text.specs.declared.plan.RunPlan.TheVariants.{Scripts, Demo}
@@ -34,6 +34,14 @@ pub record IsReported (text : Text) (decided status : ℕ) (told : Bool) (before
   pub answers : Answers decided status faults_before faults
   pub prints : IsTrue told → Prints text before after
   pub prints_all : IsTrue told → status ≢ 6 → status ≢ 9 → (Rose faults_before faults → ⊥) → PrintsAll text before after
+
+-- The disk was at most looked at: what is read stays, no removal is new, and a crash leaves at no moment what it couldn't
+-- leave before.
+pub record IsOnlyLookedAt {D : Type 0} (reads : D → Image) (may_leave : D → Image → Type 0) (moment : D → ℕ) (left_since : D → ℕ → Image → Type 0) (removing : D → ℕ → Type 0) (old new : D) : Type 0 where
+  pub seen : reads new ≡ reads old
+  pub pending : (n : ℕ) → removing new n → removing old n
+  pub crash : Keeps (may_leave old) (may_leave new)
+  pub within : Within moment left_since old new (may_leave old)
 
 -- What a run of the script did, and with which status it ended. `empty` is the premise that the disk tells what it holds
 -- and that a crash at the start would have left no file; `left` and `now` are the images of a crash since then and at the

@@ -21,7 +21,7 @@ use Rattle.frs_engine.specs.declared.journal.Journal.{Journal}
 use Rattle.frs_engine.specs.declared.session.Run.{Run}
 use Rattle.frs_engine.specs.Entries.{table}
 use Rattle.frs_engine.specs.Journal.{IsWritten, FaultHasCause, log_of}
-use Rattle.frs_engine.specs.Promise.{commits_of_run, owed_acks, puts, is_put_or_mark}
+use Rattle.frs_engine.specs.Promise.{commits_of_run, owed_acks, puts, is_own, are_of_run}
 
 -- ---- the log
 
@@ -37,7 +37,7 @@ drawn_put entries next id key value = drawn entries next (named_at (settled entr
 -- records name never falls.
 pub record IsLog (records : List Record) (entries : Table Held) (next : ℕ) : Type 0 where
   pub lawful : Lawful [] 1 records
-  pub kinds : IsTrue (list_all (λ (r : Record). is_put_or_mark r.action) records)
+  pub kinds : IsTrue (are_of_run records)
   pub state : state_after (settled [] 1) records ≡ settled entries next
   pub count : next ≡ length records + 1
   pub placed : Placed (log_of records)
@@ -56,10 +56,12 @@ answer line reply = record { client = 1; line = line; what = what.Answered reply
 abbrev pub commits_so_far : Run → List Changes
 commits_so_far r = commits_of_run r.script.now r.events.items
 
--- The log and the history say the same: the entries are the maps, each put is a commit, and is acknowledged.
+-- The log and the history say the same: the entries are the maps, each put is a commit, and is acknowledged. Each event is
+-- the client's.
 pub record IsAnswered (records : List Record) (r : Run) : Type 0 where
   pub log : IsLog records (table r.entries.items) (length records + 1)
   pub machine : run (r.script.now ∷ []) (start [] 0 1) r.events.items ≡ Some (state_at (plain (table r.entries.items)) r.done)
+  pub own : IsTrue (list_all is_own r.events.items)
   pub commits : commits_so_far r ≡ each_alone (puts records)
   pub acks : r.acks.items ≡ owed_acks r.script.now r.events.items
   pub within : IsTrue (list_all (λ (a : Ack). nat_le a.lsn (length records)) r.acks.items)

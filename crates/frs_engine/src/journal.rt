@@ -1,14 +1,14 @@
 //! The journal of a store: both ends of the ring of its log, and the writer that has its disk.
-ghost use Rattle.std.specs.Prelude.{◌≡◌, ◌⊎◌, ◌+◌, ◌<◌, ◌≤◌, ◌^◌, ◌++◌, ℕ, List, [], ◌∷◌, length, IsTrue, IfOk, IfErr, OnOk};
+ghost use Rattle.std.specs.Prelude.{◌≡◌, ◌+◌, ◌<◌, ◌^◌, ◌++◌, ℕ, List, [], ◌∷◌, length, IsTrue, IfOk, IfErr, OnOk};
 ghost use Rattle.std.specs.FinMap.{entries, empty};
 ghost use Rattle.frs_types.specs.declared.record.Record.{Record};
 ghost use Rattle.frs_types.specs.Records.{Placed};
-ghost use Rattle.frs_disk.specs.Disk.{Image, Passes, Within};
+ghost use Rattle.frs_disk.specs.Disk.{Passes, Within};
 ghost use Rattle.frs_frame.specs.Spelling.{spelling};
 ghost use Rattle.frs_segment.specs.Stores.{IsFound};
 ghost use Rattle.frs_slots.specs.Views.{AreOfOneRing};
 ghost use Rattle.frs_writer.specs.Writing.{HoldsAll};
-ghost use Rattle.frs_engine.specs.Journal.{LeftNoFile, HasWritten, HasDrawn, IsWritten, IsNext, IsPublished, HoldsOneMore, log_of, IsOutside, outside, FaultHasCause, CallHasCause};
+ghost use Rattle.frs_engine.specs.Journal.{LeftNoFile, IsWritten, IsNext, IsPublished, HoldsOneMore, log_of, IsOutside, outside, FaultHasCause, CallHasCause};
 
 use frs_disk::{Disk, Fault};
 use frs_frame::Framed;

@@ -10,9 +10,12 @@ mod run;
 mod session;
 
 pub use frs_text::{FileNames, PlainPlan, RunPlan};
+pub use frs_types::{NoTurn, Turn};
 pub use looking::{Left, frs_plain};
 pub use run::{Ended, frs_run};
 
+#[cfg(test)]
+mod crash_tests;
 #[cfg(test)]
 mod looking_tests;
 #[cfg(test)]

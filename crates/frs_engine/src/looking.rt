@@ -1,19 +1,16 @@
 //! Looks at a store and prints what it holds. Nothing on the disk changes.
-ghost use Rattle.std.specs.Prelude.{◌≡◌, ◌≢◌, ◌⊎◌, ◌++◌, ℕ, List, [], ◌∷◌, Result, map, IsTrue, IfOk, OnOk, codes, decimal};
+ghost use Rattle.std.specs.Prelude.{◌≡◌, ◌≢◌, ◌⊎◌, ◌++◌, ℕ, List, [], ◌∷◌, Result, IsTrue, IfOk, OnOk, codes, decimal};
 ghost use Rattle.std.specs.FinMap.{entries};
-ghost use Rattle.std.specs.List.{IsDistinct};
 ghost use Rattle.std.specs.String.{string_bytes};
-ghost use Rattle.frs_types.specs.Maps.{same_place};
 ghost use Rattle.frs_types.specs.Records.{Log};
 ghost use Rattle.frs_disk.specs.Disk.{HasCause, Keeps, Passes, Rose, Within};
 ghost use Rattle.frs_disk.specs.Outside.{AddsPartOf};
 ghost use Rattle.frs_segment.specs.Segments.{Segment, SpellsBy};
 ghost use Rattle.frs_recovery.specs.declared.fault.RecoverFault.{RecoverFault as Refusal};
-ghost use Rattle.frs_recovery.specs.Answers.{place_of};
 ghost use Rattle.frs_recovery.specs.Wrong.{IsWrongFirst};
 ghost use Rattle.frs_text.specs.Text.{Text, line};
 ghost use Rattle.frs_text.specs.declared.plan.PlainPlan.TheVariants.{Compact};
-ghost use Rattle.frs_engine.specs.Runs.{Answers, IsReported, IsSteady, Prints, PrintsAll};
+ghost use Rattle.frs_engine.specs.Runs.{IsReported, IsSteady, Prints};
 ghost use Rattle.frs_engine.specs.Looks.{refusal_status, refusal_text, finding_status, finding_text, maps_finding, numbers_finding, is_plain_status, IsSaid, IsPrintable};
 
 use frs_disk::{Disk, Fault, Sink};

@@ -250,8 +250,10 @@ fn segments_that_are_refused(rt: HostRuntime) -> Result<(), Fail> {
             assert!(rt; left.is(status, text));
         }
     }
-    let left = looked_at_one(alloc, PlainPlan::Recover, &SEGMENT[..100])?;
-    assert!(rt; left.is(4, b"segment 1 offset 64 chunk\n"));
+    for plan in [PlainPlan::Recover, PlainPlan::Stat] {
+        let left = looked_at_one(alloc, plan, &SEGMENT[..100])?;
+        assert!(rt; left.is(4, b"segment 1 offset 64 chunk\n"));
+    }
     Ok(())
 }
 

@@ -1,9 +1,8 @@
 //! Reads the script of a plan's one file.
-ghost use Rattle.std.specs.Prelude.{◌≡◌, ◌⊎◌, ◌<◌, ◌^◌, ℕ, List, Some, None, Ok, Err, length, false, IsTrue, IfOk, IfErr, MatchResult};
-ghost use Rattle.frs_history.specs.declared.command.Line.{Line as Meant};
+ghost use Rattle.std.specs.Prelude.{◌≡◌, ◌⊎◌, ◌<◌, ◌^◌, ℕ, List, Some, None, Ok, Err, length, IsTrue, IfOk, IfErr, MatchResult};
 ghost use Rattle.frs_disk.specs.Disk.{Rose};
 ghost use Rattle.frs_text.specs.declared.script_fault.ScriptFault.{ScriptFault as Refusal};
-ghost use Rattle.frs_engine.specs.Causes.{one_file, bytes_of_plan, ending_of_plan, HasOthers, IsUnread};
+ghost use Rattle.frs_engine.specs.Causes.{one_file, bytes_of_plan, ending_of_plan, IsUnread};
 ghost use Rattle.frs_engine.specs.Endings.{parsed, ending_by};
 ghost use Rattle.frs_engine.specs.Promise.{is_put_or_get, has_puts_and_gets};
 

@@ -1,5 +1,5 @@
 //! Prints what a run did, and answers its status.
-ghost use Rattle.std.specs.Prelude.{◌≡◌, ◌≢◌, ◌++◌, [], ◌∷◌, true, IsTrue, OnOk};
+ghost use Rattle.std.specs.Prelude.{◌≡◌, ◌≢◌, ◌++◌, IsTrue, OnOk};
 ghost use Rattle.std.specs.String.{string_bytes};
 ghost use Rattle.frs_disk.specs.Disk.{HasCause, Rose};
 ghost use Rattle.frs_disk.specs.Outside.{AddsPartOf};

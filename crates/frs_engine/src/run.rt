@@ -1,18 +1,18 @@
 //! Runs the scripts of a plan against a disk.
-ghost use Rattle.std.specs.Prelude.{◌≡◌, ◌≢◌, ◌⊎◌, ◌<◌, ◌≤◌, ◌^◌, ℕ, List, Some, None, Ok, Err, [], false, length, IsTrue};
+ghost use Rattle.std.specs.Prelude.{◌≡◌, ◌≢◌, ◌⊎◌, ◌<◌, ◌^◌, ℕ, List, Some, None, Ok, Err, [], false, length, IsTrue};
 ghost use Rattle.std.specs.FinMap.{empty, keys};
 ghost use Rattle.frs_history.specs.declared.command.Line.{Line};
 ghost use Rattle.frs_history.specs.declared.event.Ack.{Ack as Acknowledged};
 ghost use Rattle.frs_history.specs.declared.event.Event.{Event as Happened};
-ghost use Rattle.frs_disk.specs.Disk.{Image, Rose, NoneRemovedAbove};
+ghost use Rattle.frs_disk.specs.Disk.{Image, Passes, Rose, NoneRemovedAbove};
 ghost use Rattle.frs_text.specs.declared.script_fault.ScriptFault.{ScriptFault as Refusal};
 ghost use Rattle.frs_text.specs.declared.script_fault.ScriptFault.TheVariants as refusal;
 ghost use Rattle.frs_engine.specs.declared.report.Ending.{Ending as Decided};
-ghost use Rattle.frs_engine.specs.Causes.{one_file, bytes_of_plan, ending_of_plan, IsForLater, IsCause, IsEndOfRun};
+ghost use Rattle.frs_engine.specs.Causes.{one_file, bytes_of_plan, ending_of_plan, HasOthers, IsForLater, IsCause, IsEndOfRun};
 ghost use Rattle.frs_engine.specs.Endings.{parsed, ending_by, ending_of_stop, status_of, text_of};
 ghost use Rattle.frs_engine.specs.Journal.{LeftNoFile};
 ghost use Rattle.frs_engine.specs.Promise.{has_puts_and_gets, commits_of_run, Tells, Survives, Completes, ShowsAll};
-ghost use Rattle.frs_engine.specs.Runs.{IsRun, IsReported, HasWork, IsSteady, is_status};
+ghost use Rattle.frs_engine.specs.Runs.{IsRun, IsReported, IsOnlyLookedAt, HasWork, IsSteady, is_status};
 
 use crate::parsing::read_script;
 use crate::report::{Ending, Outcome, report};
@@ -90,7 +90,10 @@ fn run_on<D: Disk>(alloc: Global, disk: D, script: Script) -> Ran<D>
     ensures later { result.outcome.ending ≡ Ending.Later → IsTrue (D.tells disk) → keys (D.reads disk) ≢ [] }
     ensures listed { IsTrue (D.tells disk) → keys (D.reads disk) ≢ []
         → (result.outcome.ending ≡ Ending.Later) ⊎ (result.outcome.ending ≡ Ending.Disk) ⊎ (result.outcome.ending ≡ Ending.Memory) }
-    ensures untouched { result.outcome.ending ≡ Ending.Later → D.reads result.disk ≡ D.reads disk }
+    ensures looked { (result.outcome.ending ≡ Ending.Later) ⊎ (IsTrue (D.tells disk) × (keys (D.reads disk) ≢ []))
+        → IsOnlyLookedAt D.reads D.may_leave D.moment D.left_since D.removing disk result.disk }
+    ensures told { D.tells result.disk ≡ D.tells disk }
+    ensures time { Passes D.moment D.left_since disk result.disk }
     ensures ends { IsEndOfRun result.outcome.ending }
     ensures failed { result.outcome.ending ≡ Ending.Disk → Rose (D.faults disk) (D.faults result.disk) }
     ensures steady { result.outcome.ending ≢ Ending.Disk → D.faults result.disk ≡ D.faults disk }
@@ -134,7 +137,11 @@ fn attempt<D: Disk, F: Files>(alloc: Global, plan: &RunPlan, disk: D, files: &mu
     ensures listed { IsTrue (D.tells disk) → keys (D.reads disk) ≢ [] → result.outcome.ending ≢ Ending.Closed }
     ensures others { IsTrue (F.tells files.old) → (file : List ℕ) (script : List Line) → bytes_of_plan plan.now (F.file files.old) ≡ Some file → parsed file ≡ Ok script
         → has_puts_and_gets script ≡ false → (result.outcome.ending ≡ Ending.Later) ⊎ (result.outcome.ending ≡ Ending.Unread) ⊎ (result.outcome.ending ≡ Ending.Memory) }
-    ensures untouched { (status_of result.outcome.ending ≡ 10) ⊎ (status_of result.outcome.ending ≡ 5) ⊎ (status_of result.outcome.ending ≡ 2) ⊎ (status_of result.outcome.ending ≡ 8) → D.reads result.disk ≡ D.reads disk }
+    ensures unread { (status_of result.outcome.ending ≡ 2) ⊎ (status_of result.outcome.ending ≡ 5) ⊎ (status_of result.outcome.ending ≡ 8) → result.disk ≡ disk }
+    ensures looked { (result.outcome.ending ≡ Ending.Later) ⊎ (IsTrue (D.tells disk) × (keys (D.reads disk) ≢ []))
+        → IsOnlyLookedAt D.reads D.may_leave D.moment D.left_since D.removing disk result.disk }
+    ensures told { D.tells result.disk ≡ D.tells disk }
+    ensures time { Passes D.moment D.left_since disk result.disk }
     ensures disk_steady { result.outcome.ending ≢ Ending.Disk → D.faults result.disk ≡ D.faults disk }
     ensures files_steady { result.outcome.ending ≢ Ending.Unread → F.faults files.new ≡ F.faults files.old }
 {
@@ -185,10 +192,13 @@ pub fn frs_run<
         (D.left_since result.disk (D.moment disk)) (D.may_leave result.disk) script events acks
         × IsCause plan.now (F.tells files.old) (bytes_of_plan plan.now (F.file files.old)) (Rose (D.faults disk) (D.faults result.disk)) (Rose (F.faults files.old) (F.faults files.new))
         (IsTrue (D.tells disk) → keys (D.reads disk) ≢ []) script events ending
+        × (one_file plan.now ≡ None → ending ≡ ending_of_plan plan.now)
         × IsReported (text_of ending script events acks) (status_of ending) result.status (S.tells sink.old) (S.written sink.old) (S.written sink.new) (S.faults sink.old) (S.faults sink.new) }
 
     // Each status has its cause.
     ensures known { IsTrue (is_status result.status) }
+    ensures disk_steady { result.status ≢ 3 → result.status ≢ 9 → D.faults result.disk ≡ D.faults disk }
+    ensures files_steady { result.status ≢ 5 → result.status ≢ 9 → F.faults files.new ≡ F.faults files.old }
     ensures untroubled { result.status ≡ 0 → (D.faults result.disk ≡ D.faults disk) × (F.faults files.new ≡ F.faults files.old) × (S.faults sink.new ≡ S.faults sink.old) }
     ensures bad { result.status ≡ 2 → IsTrue (F.tells files.old) → (file : List ℕ) × (line : ℕ) × (bytes_of_plan plan.now (F.file files.old) ≡ Some file)
         × ((parsed file ≡ Err (refusal.BadLine line)) ⊎ (parsed file ≡ Err (refusal.TooLong line))) }
@@ -203,9 +213,17 @@ pub fn frs_run<
     ensures several { one_file plan.now ≡ None → (result.status ≡ status_of (ending_of_plan plan.now)) ⊎ (result.status ≡ 9) }
     ensures refused { IsTrue (F.tells files.old) → (file : List ℕ) (fault : Refusal) → bytes_of_plan plan.now (F.file files.old) ≡ Some file → parsed file ≡ Err fault
         → (result.status ≡ status_of (ending_by fault)) ⊎ (result.status ≡ 9) ⊎ (result.status ≡ 5) }
+    ensures others { IsTrue (F.tells files.old) → HasOthers (bytes_of_plan plan.now (F.file files.old)) → (result.status ≡ 10) ⊎ (result.status ≡ 9) ⊎ (result.status ≡ 5) }
     ensures for_later { IsTrue (F.tells files.old) → IsTrue (D.tells disk) → IsForLater plan.now (F.file files.old) (D.reads disk)
         → (result.status ≡ 10) ⊎ (result.status ≡ 9) ⊎ (result.status ≡ 3) ⊎ (result.status ≡ 5) }
-    ensures untouched { (result.status ≡ 10) ⊎ (result.status ≡ 5) ⊎ (result.status ≡ 2) ⊎ (result.status ≡ 8) → D.reads result.disk ≡ D.reads disk }
+
+    // Where a script is refused, a file isn't read or a limit is met, the disk is as it was. A disk that lists files is at
+    // most looked at, and so is each where the run isn't built yet.
+    ensures unread { (result.status ≡ 2) ⊎ (result.status ≡ 5) ⊎ (result.status ≡ 8) → result.disk ≡ disk }
+    ensures looked { (result.status ≡ 10) ⊎ (IsTrue (D.tells disk) × (keys (D.reads disk) ≢ []))
+        → IsOnlyLookedAt D.reads D.may_leave D.moment D.left_since D.removing disk result.disk }
+    ensures told { D.tells result.disk ≡ D.tells disk }
+    ensures time { Passes D.moment D.left_since disk result.disk }
 
     // What can be run is run to its end, unless a count rose or memory ran out.
     ensures complete { (script : List Line) (file : List ℕ) → IsTrue (F.tells files.old) → IsTrue (D.tells disk)

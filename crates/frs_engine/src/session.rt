@@ -1,5 +1,5 @@
 //! The run of one script of puts and gets by one client, on a store that is empty.
-ghost use Rattle.std.specs.Prelude.{◌≡◌, ◌+◌, ◌<◌, ◌≤◌, ◌^◌, ◌++◌, ℕ, List, [], ◌∷◌, None, Some, length, IsTrue, IfOk, OnOk, OnErr, option_map, vec_len, vec_capacity, slice_get};
+ghost use Rattle.std.specs.Prelude.{◌≡◌, ◌⊎◌, ◌+◌, ◌<◌, ◌≤◌, ◌^◌, ◌++◌, ℕ, List, [], ◌∷◌, None, Some, length, IsTrue, IfOk, OnOk, OnErr, option_map, vec_len, vec_capacity, slice_get};
 ghost use Rattle.std.specs.FinMap.{empty};
 ghost use Rattle.std.specs.FinMap.Entries.{put, find};
 ghost use Rattle.frs_types.specs.declared.record.Action.TheVariants as action;
@@ -175,6 +175,7 @@ impl<'a> Run<'a> {
     // Writes a mark.
     fn mark<D: Disk>(&self, alloc: Global, journal: &mut Journal<D>) -> Result<(), Fault>
         requires ready { IsReady D.tells D.reads D.may_leave journal.old self.now }
+        requires marks { (journal.old.drawer.drawn ≡ []) ⊎ HasOneMark journal.old self.now }
         requires room { HasRoom journal.old self.now }
         ensures ready { OnOk result (IsReady D.tells D.reads D.may_leave journal.new self.now) }
         ensures drawn { OnOk result (length journal.new.drawer.drawn ≡ length journal.old.drawer.drawn + 1) }

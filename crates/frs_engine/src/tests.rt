@@ -62,9 +62,9 @@ const WRITTEN: [(usize, usize); 9] = [
 
 // What a run left.
 #[derive(Drop)]
-struct Left {
+pub(crate) struct Left {
     status: u8,
-    disk: MemDisk,
+    pub(crate) disk: MemDisk,
     sink: MemSink,
 }
 
@@ -74,7 +74,7 @@ fn empty_disk(alloc: Global, plan: FaultPlan) -> Result<MemDisk, NoMemory>
     MemDisk::of(alloc, Vec::new(alloc), plan)
 }
 
-fn no_fault(alloc: Global) -> FaultPlan {
+pub(crate) fn no_fault(alloc: Global) -> FaultPlan {
     FaultPlan {
         failing: Vec::new(alloc),
         stop_after: None,
@@ -100,6 +100,29 @@ fn files_of(alloc: Global, script: &[u8]) -> Result<MemFiles, NoMemory>
     MemFiles::of(alloc, held, Vec::new(alloc))
 }
 
+// Runs the plan on these files and this disk, with a sink of which these calls fail.
+fn run_plan<R: Threads + Wait + Sync>(
+    rt: &R,
+    alloc: Global,
+    plan: &RunPlan,
+    files: MemFiles,
+    disk: MemDisk,
+    failing: Vec<u64>,
+) -> Result<Left, NoMemory>
+    requires work { HasWork plan.now }
+    requires pending { NoneRemovedAbove ⟦<MemDisk as frs_disk::Disk>⟧.reads ⟦<MemDisk as frs_disk::Disk>⟧.removing disk }
+{
+    let mut files = files;
+    let mut sink = MemSink::of(alloc, failing)?;
+    let shelf = MemShelf::of(alloc, Vec::new(alloc))?;
+    let ended = frs_run(rt, alloc, plan, disk, &mut files, shelf, &mut sink, &NoTurn);
+    Ok(Left {
+        status: ended.status,
+        disk: ended.disk,
+        sink,
+    })
+}
+
 // Runs the script on this disk, with a sink of which these calls fail.
 fn run_on<R: Threads + Wait + Sync>(
     rt: &R,
@@ -112,20 +135,11 @@ fn run_on<R: Threads + Wait + Sync>(
     requires pending { NoneRemovedAbove ⟦<MemDisk as frs_disk::Disk>⟧.reads ⟦<MemDisk as frs_disk::Disk>⟧.removing disk }
 {
     let plan = plan_of(alloc, "a")?;
-    let mut files = files_of(alloc, script)?;
-    let mut sink = MemSink::of(alloc, failing)?;
-    let shelf = MemShelf::of(alloc, Vec::new(alloc))?;
-    let ended = frs_run(
-        rt, alloc, &plan, disk, &mut files, shelf, &mut sink, &NoTurn,
-    );
-    Ok(Left {
-        status: ended.status,
-        disk: ended.disk,
-        sink,
-    })
+    let files = files_of(alloc, script)?;
+    run_plan(rt, alloc, &plan, files, disk, failing)
 }
 
-fn run<R: Threads + Wait + Sync>(
+pub(crate) fn run<R: Threads + Wait + Sync>(
     rt: &R,
     alloc: Global,
     script: &[u8],
@@ -139,7 +153,7 @@ fn run<R: Threads + Wait + Sync>(
 }
 
 impl Left {
-    fn is(&self, status: u8, text: &[u8]) -> bool {
+    pub(crate) fn is(&self, status: u8, text: &[u8]) -> bool {
         self.status == status && self.sink.bytes() == text
     }
 
@@ -345,16 +359,31 @@ struct Read {
     puts: u8,
 }
 
+// The record with this LSN is outside of transactions and names none, and its lowest LSN is that of the first put once
+// there is one, since no key is put twice.
+fn has_head(body: &[u8], lsn: u64) -> Option<bool> {
+    let lowest = if lsn == 1 { 1 } else { 2 };
+    Some(
+        number_at(body, 1, 8)? == 0
+            && number_at(body, 9, 8)? == lowest
+            && number_at(body, 17, 8)? == 0,
+    )
+}
+
 // One record more, where it is a mark or the next put.
 fn read_record(read: Read, body: &[u8], len: usize) -> Option<Read> {
     let next = read.next.checked_add(1)?;
-    if *body.get(0)? == 7 {
+    if !has_head(body, read.next)? {
+        return None;
+    }
+    if *body.get(0)? == 7 && body.len() == 25 {
         return Some(Read { next, ..read });
     }
     let is_next = number_at(body, 0, 1)? == 1
         && body.get(25..28)? == [1, b'm', 1].as_slice()
         && *body.get(28)? == b'a'.checked_add(read.puts)?
         && number_at(body, 29, 2)? == len as u64
+        && body.get(31..)?.len() == len
         && body.get(31..)?.iter().all(|byte| *byte == b'v');
     if !is_next {
         return None;
@@ -405,7 +434,7 @@ fn read_files(files: &[(u64, Vec<u8>)], len: usize) -> Option<Read> {
 }
 
 // Each crash leaves at least as many puts as were acknowledged, and at most one more.
-fn keeps_acknowledged(alloc: Global, left: &Left, len: usize) -> Result<bool, NoMemory> {
+fn keeps_acknowledged(left: &Left, len: usize) -> Result<bool, NoMemory> {
     let acknowledged = left
         .sink
         .bytes()
@@ -427,7 +456,6 @@ fn keeps_acknowledged(alloc: Global, left: &Left, len: usize) -> Result<bool, No
             _ => return Ok(false),
         }
     }
-    let _ = alloc;
     Ok(true)
 }
 
@@ -447,7 +475,7 @@ fn a_log_over_two_segments_keeps_what_was_acknowledged(rt: HostRuntime) -> Resul
         };
         let left = run(&rt, alloc, script.as_slice(), stop)?;
         assert_eq!(rt; left.status, 3);
-        assert!(rt; keeps_acknowledged(alloc, &left, 65_535)?);
+        assert!(rt; keeps_acknowledged(&left, 65_535)?);
     }
     Ok(())
 }
@@ -471,10 +499,15 @@ fn a_script_of_many_lines_is_run_to_its_end(rt: HostRuntime) -> Result<(), Fail>
 }
 
 // A script that isn't run, and what is answered.
-const NOT_RUN: [(&[u8], u8, &[u8]); 5] = [
+const NOT_RUN: [(&[u8], u8, &[u8]); 6] = [
     (b"put m k\n", 2, b"script 1 line 1 bad\n"),
     (b"# none\nget m k v\n", 2, b"script 1 line 2 bad\n"),
     (b"begin\nbegin\n", 2, b"script 1 line 2 bad\n"),
+    (
+        b"put 01234567890123456789012345678901234567890123456789012345678901234 k v\n",
+        2,
+        b"script 1 line 1 long\n",
+    ),
     (b"begin\ncommit\n", 10, b"later\n"),
     (b"put m k v\nremove m k\n", 10, b"later\n"),
 ];
@@ -496,6 +529,24 @@ fn what_cant_be_run_is_answered_so_and_changes_nothing(rt: HostRuntime) -> Resul
     Ok(())
 }
 
+#[test]
+fn an_id_of_64_bytes_is_accepted(rt: HostRuntime) -> Result<(), Fail> {
+    let alloc = rt.alloc();
+    let left = run(
+        &rt,
+        alloc,
+        b"put 0123456789012345678901234567890123456789012345678901234567890123 k v\n",
+        no_fault(alloc),
+    )?;
+    assert!(rt;
+        left.is(
+            0,
+            b"1 1 put 0123456789012345678901234567890123456789012345678901234567890123 k v -> done\ndurable 1 1\nclosed\n",
+        )
+    );
+    Ok(())
+}
+
 // Runs a plan of so many files, each with the name `a`.
 fn run_files<R: Threads + Wait + Sync>(
     rt: &R,
@@ -512,18 +563,9 @@ fn run_files<R: Threads + Wait + Sync>(
     let plan = RunPlan::Scripts {
         files: FileNames::of(names),
     };
-    let mut files = files_of(alloc, b"get m k\n")?;
-    let mut sink = MemSink::of(alloc, Vec::new(alloc))?;
-    let shelf = MemShelf::of(alloc, Vec::new(alloc))?;
+    let files = files_of(alloc, b"get m k\n")?;
     let disk = empty_disk(alloc, no_fault(alloc))?;
-    let ended = frs_run(
-        rt, alloc, &plan, disk, &mut files, shelf, &mut sink, &NoTurn,
-    );
-    Ok(Left {
-        status: ended.status,
-        disk: ended.disk,
-        sink,
-    })
+    run_plan(rt, alloc, &plan, files, disk, Vec::new(alloc))
 }
 
 #[test]
@@ -551,5 +593,35 @@ fn words_may_have_escapes_and_the_sink_may_fail(rt: HostRuntime) -> Result<(), F
     let unheard = run_on(&rt, alloc, b"put m k v\nget m k\n", disk, failing)?;
     assert!(rt; unheard.is(6, b""));
     assert!(rt; unheard.has_segment(&SEGMENT));
+    Ok(())
+}
+
+#[test]
+fn a_file_of_commands_that_isnt_there_is_unread(rt: HostRuntime) -> Result<(), Fail> {
+    let alloc = rt.alloc();
+    let plan = plan_of(alloc, "b")?;
+    let files = files_of(alloc, b"put m k v\n")?;
+    let disk = empty_disk(alloc, no_fault(alloc))?;
+    let left = run_plan(&rt, alloc, &plan, files, disk, Vec::new(alloc))?;
+    assert!(rt; left.is(5, b"file 1 unread\n"));
+    assert_eq!(rt; left.disk.files().len(), 0);
+    Ok(())
+}
+
+// A disk with file 1 of the one byte 1.
+fn disk_with_a_file(alloc: Global) -> Result<MemDisk, NoMemory>
+    ensures { IfOk result (NoneRemovedAbove ⟦<MemDisk as frs_disk::Disk>⟧.reads ⟦<MemDisk as frs_disk::Disk>⟧.removing) }
+{
+    let bytes = Vec::from_slice(alloc, &[1])?;
+    MemDisk::of(alloc, vec![in alloc; (1, bytes)]?, no_fault(alloc))
+}
+
+#[test]
+fn a_disk_that_lists_a_file_is_put_off(rt: HostRuntime) -> Result<(), Fail> {
+    let alloc = rt.alloc();
+    let disk = disk_with_a_file(alloc)?;
+    let left = run_on(&rt, alloc, b"put m k v\n", disk, Vec::new(alloc))?;
+    assert!(rt; left.is(10, b"later\n"));
+    assert!(rt; left.has_segment(&[1]));
     Ok(())
 }

@@ -1,10 +1,13 @@
-use Rattle.std.proofs.Common.{◌≡◌, sym, ap, subst, ◌∙◌, Ok}
+use Rattle.std.proofs.Common.{◌≡◌, sym, ap, subst, ◌∙◌, Ok, IsTrue}
 use Rattle.frs_engine.specs.declared.report.Ending.{Ending}
 use Rattle.frs_engine.specs.Causes.{IsUnread, bytes_of_plan}
 use Rattle.frs_engine.specs.Endings.{status_of}
+use Rattle.frs_engine.specs.Promise.{has_puts_and_gets}
 use Rattle.frs_disk.specs.Disk.{Rose}
+use Rattle.frs_engine.proofs.Joining.{passes_none}
+use Rattle.frs_engine.proofs.Looked.{not_looked}
 use Rattle.frs_engine.proofs.Nothing.{nothing_survives}
-use Rattle.frs_engine.proofs.Reasons.{unread_cause, unread_not_zero, unread_others, run_cause, run_later, no_others}
+use Rattle.frs_engine.proofs.Reasons.{unread_cause, unread_not_zero, unread_others, run_cause, run_unread, no_others}
 use Rattle.frs_engine.proofs.Refused.{nothing_told}
 use Rattle.frs_engine.proofs.run.attempt.Goals as goal
 
@@ -14,15 +17,15 @@ pub returns-in-Ok-clause-cause : goal.returns-in-Ok-clause-cause
 returns-in-Ok-clause-cause g c =
     let ran = c.run_on.ensures in
     run_cause c.args.plan.now _ _ _ _ _ c.run_on.result.outcome.script _ c.run_on.result.outcome.ending ran.ends ran.failed ran.later
-    (λ t. let found = c.in-Ok.ensures.found t in (found.0, found.1, found.2 ∙ ap (λ l. Ok l) (sym ran.script)))
+    (λ t. let found = c.in-Ok.ensures.found t in (found.0, found.1, found.2 ∙ ap (λ l. Ok l) (sym ran.script), subst (λ l. IsTrue (has_puts_and_gets l)) (sym ran.script) c.in-Ok.ensures.simple))
 
 pub returns-in-Ok-clause-others : goal.returns-in-Ok-clause-others
 returns-in-Ok-clause-others g c t file script some ok other =
     let found = c.in-Ok.ensures.found t in
     absurd (no_others (bytes_of_plan c.args.plan.now (g.F.Files.file c.args.files.now)) found.0 c.in-Ok.script found.1 found.2 c.in-Ok.ensures.simple (file, script, some, ok, other))
 
-pub returns-in-Ok-clause-untouched : goal.returns-in-Ok-clause-untouched
-returns-in-Ok-clause-untouched g c is = c.run_on.ensures.untouched (run_later c.run_on.result.outcome.ending c.run_on.ensures.ends is)
+pub returns-in-Ok-clause-unread : goal.returns-in-Ok-clause-unread
+returns-in-Ok-clause-unread g c is = absurd (run_unread c.run_on.result.outcome.ending c.run_on.ensures.ends is)
 
 -- ---- and none was
 
@@ -35,6 +38,16 @@ returns-in-Err-clause-run g c =
       completes = λ closed. absurd (zero closed);
       shows_all = λ closed. absurd (zero closed);
     }
+
+pub returns-in-Err-clause-looked : goal.returns-in-Err-clause-looked
+returns-in-Err-clause-looked g c is =
+    let d = g.D.Disk in
+    not_looked d.reads d.may_leave d.moment d.left_since d.removing c.args.disk (g.met.D.Disk.only_now c.args.disk)
+
+pub returns-in-Err-clause-time : goal.returns-in-Err-clause-time
+returns-in-Err-clause-time g c =
+    let d = g.D.Disk in
+    passes_none d.moment d.left_since c.args.disk
 
 pub returns-in-Err-clause-cause : goal.returns-in-Err-clause-cause
 returns-in-Err-clause-cause g c =

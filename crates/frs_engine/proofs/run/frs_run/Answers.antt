@@ -1,7 +1,8 @@
-use Rattle.std.proofs.Common.{◌≡◌, ◌∙◌, sym, arith}
+use Rattle.std.proofs.Common.{◌≡◌, inl, inr, ⊎_elim, ◌∙◌, sym, ap, arith}
 use Rattle.frs_engine.specs.declared.report.Ending.{Ending}
 use Rattle.frs_engine.specs.declared.report.Ending.TheVariants.{Closed, Disk, Unread}
-use Rattle.frs_engine.proofs.Reasons.{decided_is, known_status, zero_closed, bad_cause, disk_cause, files_cause, limit_cause, later_cause, not_yet_later, refused_ending, whole_ending, plan_answered, fault_answered, put_off, whole_answered, risen}
+use Rattle.frs_engine.specs.Endings.{status_of}
+use Rattle.frs_engine.proofs.Reasons.{decided_is, known_status, zero_closed, bad_cause, disk_cause, files_cause, limit_cause, later_cause, not_yet_later, refused_ending, whole_ending, plan_answered, fault_answered, put_off, others_put_off, not_decided, ten_later, whole_answered, risen}
 use Rattle.frs_engine.proofs.run.frs_run.Goals as goal
 
 pub returns-clause-run : goal.returns-clause-run
@@ -13,11 +14,40 @@ returns-clause-run g c =
       o.acks.items,
       c.attempt-disk.ensures.run,
       c.attempt-disk.ensures.cause,
+      c.attempt-disk.ensures.several,
       record { answers = c.report-status.ensures.answers; prints = c.report-status.ensures.part; prints_all = c.report-status.ensures.all },
     )
 
 pub returns-clause-known : goal.returns-clause-known
 returns-clause-known g c = known_status c.attempt-disk.result.outcome.ending _ _ _ c.report-status.ensures.answers
+
+pub returns-clause-disk_steady : goal.returns-clause-disk_steady
+returns-clause-disk_steady g c other memory =
+    c.attempt-disk.ensures.disk_steady (λ disk. not_decided c.attempt-disk.result.outcome.ending _ _ _ c.report-status.ensures.answers 3 (λ zero. omega (arith, zero)) other memory (ap status_of disk))
+
+pub returns-clause-files_steady : goal.returns-clause-files_steady
+returns-clause-files_steady g c other memory =
+    c.attempt-disk.ensures.files_steady (λ unread. not_decided c.attempt-disk.result.outcome.ending _ _ _ c.report-status.ensures.answers 5 (λ zero. omega (arith, zero)) other memory (ap status_of unread))
+
+pub returns-clause-others : goal.returns-clause-others
+returns-clause-others g c told has =
+    let (f, s, some, ok, other) = has in
+    others_put_off c.attempt-disk.result.outcome.ending _ _ _ c.report-status.ensures.answers (c.attempt-disk.ensures.others told f s some ok other)
+
+pub returns-clause-unread : goal.returns-clause-unread
+returns-clause-unread g c is =
+    c.attempt-disk.ensures.unread (⊎_elim
+    (λ two. inl (decided_is _ _ _ _ c.report-status.ensures.answers (λ six. omega (arith, two, six)) (λ nine. omega (arith, two, nine)) ∙ two))
+    (λ rest. ⊎_elim
+    (λ five. inr (inl (decided_is _ _ _ _ c.report-status.ensures.answers (λ six. omega (arith, five, six)) (λ nine. omega (arith, five, nine)) ∙ five)))
+    (λ eight. inr (inr (decided_is _ _ _ _ c.report-status.ensures.answers (λ six. omega (arith, eight, six)) (λ nine. omega (arith, eight, nine)) ∙ eight))) rest)
+    is)
+
+pub returns-clause-looked : goal.returns-clause-looked
+returns-clause-looked g c is =
+    c.attempt-disk.ensures.looked (⊎_elim
+    (λ ten. inl (ten_later c.attempt-disk.result.outcome.ending (decided_is _ _ _ _ c.report-status.ensures.answers (λ six. omega (arith, ten, six)) (λ nine. omega (arith, ten, nine)) ∙ ten)))
+    (λ listed. inr listed) is)
 
 pub returns-clause-untroubled : goal.returns-clause-untroubled
 returns-clause-untroubled g c zero =

@@ -54,3 +54,12 @@ returns-clause-all g c =
     (subst (λ e. LeftNoFile d.may_leave e) (sym (c.mark-2.ensures.opened ∙ c.answer_all.ensures.opened ∙ c.mark.ensures.opened)) none) x left
     (omega (arith, marked.1, c.in_ok-answer_all.ensures.marks)))
     (on_ok_both _ _ c.mark-2.result c.mark-2.ensures.ready c.mark-2.ensures.drawn)
+
+pub returns-clause-time : goal.returns-clause-time
+returns-clause-time g c =
+    let d = g.D.Disk in
+    let start = c.args.journal.now.writer.disk in
+    let mid = c.answer_all.new.journal.writer.disk in
+    let last = c.mark-2.new.journal.writer.disk in
+    let two : Passes d.moment d.left_since start mid = passes_join d.moment d.left_since start c.mark.new.journal.writer.disk mid (g.met.D.Disk.since_earlier mid) c.mark.ensures.time c.answer_all.ensures.time in
+    passes_join d.moment d.left_since start mid last (g.met.D.Disk.since_earlier last) two c.mark-2.ensures.time

@@ -39,6 +39,7 @@ returns-clause-extends g c =
 
 pub returns-in_err-append-clause-images : goal.returns-in_err-append-clause-images
 returns-in_err-append-clause-images g c told none x left =
+    let d = g.D.Disk in
     let old = c.args.self.now in
     let new = c.prepare_put.new.self in
     let ready = c.requires.ready in
@@ -47,7 +48,7 @@ returns-in_err-append-clause-images g c told none x left =
     let n = c.next-lsn.result in
     let lsn : n ≡ length rs + 1 = c.next-lsn.ensures rs ready.written in
     let r : Record = drawn_put (table old.entries.items) n c.args.id.now c.args.key.now c.args.value.now in
-    let log = put_log rs old new a n lsn c.args.line c.args.id.now c.args.key.now c.args.value.now c.requires.next c.prepare_put.ensures.script c.in-Ok.ensures.events c.prepare_put.ensures.words in
+    let log = put_log rs old new a n lsn c.args.line c.args.id.now c.args.key.now c.args.value.now c.requires.next c.prepare_put.ensures.script c.in-Ok.ensures.events (ready_drawn d.tells d.reads d.may_leave c.args.journal.now old ready ∙ c.requires.marks) c.prepare_put.ensures.words in
     acked_next rs old a r _ log (commits_so_far new) _
     (put_before rs old new a n lsn c.args.line c.args.id.now c.args.key.now c.args.value.now c.requires.next c.prepare_put.ensures.script c.in-Ok.ensures.events)
     (put_after rs old new a n lsn c.args.line c.args.id.now c.args.key.now c.args.value.now c.requires.next c.prepare_put.ensures.script c.in-Ok.ensures.events) x
@@ -64,7 +65,7 @@ returns-clause-images g c told none x left =
     let n = c.next-lsn.result in
     let lsn : n ≡ length rs + 1 = c.next-lsn.ensures rs ready.written in
     let r : Record = drawn_put (table old.entries.items) n c.args.id.now c.args.key.now c.args.value.now in
-    let log = put_log rs old new a n lsn c.args.line c.args.id.now c.args.key.now c.args.value.now c.requires.next c.prepare_put.ensures.script c.in-Ok.ensures.events c.prepare_put.ensures.words in
+    let log = put_log rs old new a n lsn c.args.line c.args.id.now c.args.key.now c.args.value.now c.requires.next c.prepare_put.ensures.script c.in-Ok.ensures.events (ready_drawn d.tells d.reads d.may_leave c.args.journal.now old ready ∙ c.requires.marks) c.prepare_put.ensures.words in
     acked_next rs old a r _ log (commits_so_far new) _
     (put_before rs old new a n lsn c.args.line c.args.id.now c.args.key.now c.args.value.now c.requires.next c.prepare_put.ensures.script c.in-Ok.ensures.events)
     (put_after rs old new a n lsn c.args.line c.args.id.now c.args.key.now c.args.value.now c.requires.next c.prepare_put.ensures.script c.in-Ok.ensures.events) x
