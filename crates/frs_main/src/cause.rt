@@ -9,6 +9,7 @@ use std::io::ErrorKind;
 /// Gives the value on, or counts the fault. Want of memory isn't counted.
 pub fn answer<T>(faults: &mut u64, found: io::Result<T>) -> Result<T, Fault>
     ensures value { IfOk result (λ value. found ≡ Ok value) }
+    ensures given { IfOk found (λ value. result ≡ Ok value) }
     ensures cause { HasCause faults.old faults.new result }
 {
     match found {

@@ -1,5 +1,5 @@
 //! The files of commands, by their paths.
-ghost use Rattle.std.specs.Prelude.{◌<◌, ◌^◌, false, None, IfOk, length};
+ghost use Rattle.std.specs.Prelude.{◌<◌, ◌^◌, ◌↔◌, false, None, IsOk, IfOk, length};
 
 use crate::cause::answer;
 use frs_disk::{Fault, Files, Name};
@@ -25,15 +25,25 @@ impl FolderFiles {
     }
 }
 
-// All bytes of a file. A larger one is an error.
+// Refuses the length of a file that is too long.
+fn check_length(length: u64) -> io::Result<()>
+    ensures { IsOk result ↔ length < 2 ^ 32 }
+{
+    if length >= LIMIT {
+        return Err(io::Error::from(ErrorKind::FileTooLarge));
+    }
+    Ok(())
+}
+
+// All bytes of a file. A larger one is an error, before it is read where its length is known.
 fn read_whole(rt: &HostRuntime, alloc: Global, path: &str) -> io::Result<Vec<u8>>
     ensures { IfOk result (λ bytes. length bytes.items < 2 ^ 32) }
 {
+    let file = File::open(rt, path)?;
+    check_length(file.metadata()?.len())?;
     let mut bytes = Vec::new(alloc);
-    File::open(rt, path)?.take(LIMIT).read_to_end(&mut bytes)?;
-    if bytes.len() as u64 >= LIMIT {
-        return Err(io::Error::from(ErrorKind::FileTooLarge));
-    }
+    file.take(LIMIT).read_to_end(&mut bytes)?;
+    check_length(bytes.len() as u64)?;
     Ok(bytes)
 }
 

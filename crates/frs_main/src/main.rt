@@ -15,12 +15,12 @@ ghost use Rattle.frs_engine.specs.Runs.{HasWork};
 
 use files::FolderFiles;
 use folder::FolderDisk;
-use frs_disk::{MemShelf, Name, Sink};
-use frs_engine::{RunPlan, frs_plain, frs_run};
+use frs_disk::{Fault, MemShelf, Name, Sink};
+use frs_engine::{NoTurn, RunPlan, frs_plain, frs_run};
 use frs_text::{Job, Plan, read_words};
-use frs_types::{NoMemory, NoTurn};
+use frs_types::NoMemory;
 use out::OutSink;
-use refusal::{Refusal, USAGE};
+use refusal::{OUT_OF_MEMORY, Refusal, USAGE};
 use std::env;
 use std::process::ExitCode;
 use std::sync::Wait;
@@ -98,12 +98,14 @@ fn carry_out<R: Threads + Wait + Sync>(
     }
 }
 
-// Prints these texts on standard output.
+// Prints these texts on standard output, and gives the status.
 fn print(rt: HostRuntime, texts: &[&[u8]]) -> u8 {
     let mut sink = OutSink::of(rt.stdout());
     for text in texts {
-        if sink.write(text).is_err() {
-            return OUTPUT_FAILED;
+        match sink.write(text) {
+            Ok(()) => {}
+            Err(Fault::Failed) => return OUTPUT_FAILED,
+            Err(Fault::Memory) => return OUT_OF_MEMORY,
         }
     }
     0

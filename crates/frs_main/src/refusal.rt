@@ -1,4 +1,5 @@
 //! Why the program begins nothing.
+ghost use Rattle.std.specs.Prelude.{◌≡◌};
 
 use frs_text::WordsFault;
 use frs_types::NoMemory;
@@ -14,7 +15,7 @@ pub(crate) const USAGE: &[u8] =
 const NOT_UNDERSTOOD: u8 = 1;
 
 /// The status where there was no memory.
-const OUT_OF_MEMORY: u8 = 9;
+pub(crate) const OUT_OF_MEMORY: u8 = 9;
 
 /// Why nothing is begun.
 #[derive(Clone, Copy, Debug, PartialEq, Eq)]
@@ -27,7 +28,10 @@ pub(crate) enum Refusal {
 
 impl Refusal {
     /// Prints how the program is called on standard error, where its words were at fault, and gives the status.
-    pub(crate) fn tell(self, rt: HostRuntime) -> u8 {
+    pub(crate) fn tell(self, rt: HostRuntime) -> u8
+        ensures usage { self ≡ Refusal.Usage → result ≡ 1 }
+        ensures memory { self ≡ Refusal.Memory → result ≡ 9 }
+    {
         match self {
             Refusal::Usage => {
                 let _ = rt.stderr().write_all(USAGE);
