@@ -7,7 +7,6 @@ use Rattle.std.specs.Str.{bytes_eq}
 use Rattle.frs_text.specs.declared.plan.Job.{Job}
 use Rattle.frs_text.specs.declared.plan.Job.TheVariants.{Run, Plain}
 use Rattle.frs_text.specs.declared.plan.Plan.{Plan}
-use Rattle.frs_text.specs.declared.plan.RunPlan.{RunPlan}
 use Rattle.frs_text.specs.declared.plan.PlainPlan.{PlainPlan}
 use Rattle.frs_text.specs.declared.plan.PlainPlan.TheVariants.{Recover, Compact, Stat}
 use Rattle.frs_text.specs.CommandLine.{number_up_to, demo_end, demo_with, demo_count, demo_of, run_of, plain, job_named, job_of, on_store, plan_of}

@@ -1,5 +1,7 @@
 //! Why the program begins nothing.
-ghost use Rattle.std.specs.Prelude.{◌≡◌};
+ghost use Rattle.std.specs.Prelude.{◌≡◌, ℕ};
+ghost use Rattle.frs_text.specs.declared.words_fault.WordsFault.TheVariants as words;
+ghost use Rattle.frs_main.specs.declared.refusal.Refusal.TheVariants as told;
 
 use frs_text::WordsFault;
 use frs_types::NoMemory;
@@ -43,6 +45,8 @@ impl Refusal {
 }
 
 impl From<WordsFault> for Refusal {
+    ghost from_gives = { λ fault r. (fault ≡ words.Memory → r ≡ told.Memory) × ((n : ℕ) → fault ≡ words.Usage n → r ≡ told.Usage) };
+
     fn from(fault: WordsFault) -> Self {
         match fault {
             WordsFault::Usage { .. } => Refusal::Usage,
@@ -62,18 +66,24 @@ impl From<io::Error> for Refusal {
 }
 
 impl From<NoMemory> for Refusal {
+    ghost from_gives = { λ _ r. r ≡ told.Memory };
+
     fn from(_: NoMemory) -> Self {
         Refusal::Memory
     }
 }
 
 impl From<AllocError> for Refusal {
+    ghost from_gives = { λ _ r. r ≡ told.Memory };
+
     fn from(_: AllocError) -> Self {
         Refusal::Memory
     }
 }
 
 impl<T: Drop> From<AllocFailed<T>> for Refusal {
+    ghost from_gives = { λ _ r. r ≡ told.Memory };
+
     fn from(_: AllocFailed<T>) -> Self {
         Refusal::Memory
     }

@@ -1,4 +1,4 @@
-use Rattle.std.proofs.Common.{◌≡◌, List, ℕ, All, subst, sym}
+use Rattle.std.proofs.Common.{List, ℕ, All, subst, sym}
 use Rattle.std.proofs.lemmas.List.Sorted.{All-permutation}
 use Rattle.frs_disk.specs.Disk.{IsNumber}
 use Rattle.frs_main.proofs.folder.Folder.numbers.Goals as goal
