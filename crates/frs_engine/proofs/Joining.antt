@@ -1,5 +1,5 @@
 -- How what single calls leave joins over a run of calls.
-use Rattle.std.proofs.Common.{◌≡◌, inl, ℕ, List, [], ◌++◌, None, Result, Ok, Err, sym, ◌∙◌, ap, arith, append_assoc}
+use Rattle.std.proofs.Common.{◌≡◌, ℕ, List, [], ◌++◌, None, Result, Ok, Err, sym, ◌∙◌, ap, append_assoc}
 use Rattle.std.specs.Prelude.{OnOk}
 use Rattle.std.specs.Result.{result_err}
 use Rattle.std.proofs.lemmas.List.{append-nil}
@@ -22,10 +22,6 @@ pub extends_same : (old new : List Changes) → old ≡ new → Extends old new
 extends_same old new is = ([], sym is ∙ sym (append-nil old))
 
 module _ {D : Type 0} (moment : D → ℕ) (left_since : D → ℕ → Image → Type 0) where
-  -- no time has gone
-  pub passes_none : (disk : D) → Passes moment left_since disk disk
-  passes_none disk = record { later = omega arith; splits = λ t c le left. inl left; keeps = λ t c le left. left }
-
   -- what is shown before is shown still, and so is what is left later
   pub all_shown : (old mid new : D) (commits more : List Changes) → Passes moment left_since old mid → Passes moment left_since mid new → Extends commits more
       → Within moment left_since old mid (Shows commits) → Within moment left_since mid new (Shows more) → Within moment left_since old new (Shows more)

@@ -9,7 +9,7 @@ use mathlib.Core.List.{IsPrefix}
 use Rattle.frs_types.specs.declared.record.Record.{Record}
 use Rattle.frs_types.specs.Records.{Log, Placed, placed_from, allowed}
 use Rattle.frs_disk.specs.declared.disk.Fault.TheVariants.{Failed}
-use Rattle.frs_disk.specs.Disk.{Image}
+use Rattle.frs_disk.specs.Disk.{Image, LeftNoFile}
 use Rattle.frs_frame.specs.Spelling.{spelling}
 use Rattle.frs_segment.specs.declared.layout.Segment.{Segment as Described}
 use Rattle.frs_segment.specs.Segments.{Spells}
@@ -22,9 +22,10 @@ use Rattle.frs_writer.specs.Shown.{new_segment}
 use Rattle.frs_writer.specs.Writer.{WriterView, IsLog, IsWellOpened, WasEmpty}
 use Rattle.frs_writer.specs.declared.fault.WriteFault.{WriteFault}
 use Rattle.frs_writer.specs.declared.fault.WriteFault.TheVariants as write
-use Rattle.frs_writer.specs.Writing.{HoldsAll, HoldsFrom, HasWriteCause, Wrote, is_due, rolled}
-use Rattle.frs_engine.specs.Journal.{LeftNoFile, HasWritten, HoldsOneMore, log_of, IsOutside, outside, FaultHasCause}
-use Rattle.frs_engine.proofs.Nothing.{entries_empty}
+use Rattle.frs_writer.specs.Writing.{HoldsOnly, HoldsLog, HoldsFrom, HasWriteCause, Wrote, is_due, rolled}
+use Rattle.frs_disk.proofs.NoFiles.{no_entries}
+use Rattle.frs_segment.proofs.Order.{no_files}
+use Rattle.frs_engine.specs.Journal.{HasWritten, HoldsOneMore, log_of, IsOutside, outside, FaultHasCause}
 
 -- ---- lists
 
@@ -203,13 +204,13 @@ module _ {D : Type 0} (tells : D → Bool) (reads : D → Image) (may_leave : D 
 
   pub well_opened : (opened : D) → reads opened ≡ empty → LeftNoFile may_leave opened → IsWellOpened reads may_leave opened
   well_opened opened is none c left =
-      let now : entries c ≡ [] = ap (λ (i : Image). entries i) (none c left) ∙ entries_empty in
-      let before : entries (reads opened) ≡ [] = ap (λ (i : Image). entries i) is ∙ entries_empty in
+      let now : entries c ≡ [] = no_entries c (none c left) in
+      let before : entries (reads opened) ≡ [] = no_entries (reads opened) is in
       subst (λ a. SpellsAlike a (entries c)) (sym before) (subst (λ b. SpellsAlike [] b) (sym now) (λ log segments by. (segments, by, inr refl)))
 
   pub was_empty : (opened : D) → reads opened ≡ empty → WasEmpty reads opened
   was_empty opened is =
-      subst (λ a. Spells a (log_of [])) (sym (ap (λ (i : Image). entries i) is ∙ entries_empty))
+      subst (λ a. Spells a (log_of [])) (sym (no_entries (reads opened) is))
       ([], record { rising = refl; older = []; looked = []; files = refl; each = tt; follow = refl; enough = refl; shown = refl })
 
   writes_log : (w : WriterView D) (rs : List Record) → (reads w.opened ≡ empty) → w.taker.taken ≡ map spelling rs → IsLog reads w (log_of rs)
@@ -224,22 +225,22 @@ module _ {D : Type 0} (tells : D → Bool) (reads : D → Image) (may_leave : D 
     left_none = subst (λ (d : D). LeftNoFile may_leave d) (sym opened) none
 
     -- one more of the records, or none
-    holds_next : (k : ℕ) (c : Image) → k ≤ length (rs ++ r ∷ []) → HoldsFrom old.synced (log_of (take k (rs ++ r ∷ []))) c → HoldsOneMore rs r c
+    holds_next : (k : ℕ) (c : Image) → k ≤ length (rs ++ r ∷ []) → HoldsFrom (LeftNoFile may_leave new.opened) old.synced (log_of (take k (rs ++ r ∷ []))) c → HoldsOneMore rs r c
     holds_next k c within (n, from, to, holds) =
         let all : List Record = rs ++ r ∷ [] in
         let long : length all ≡ length rs + 1 = length-append rs (r ∷ []) in
         let le : n ≤ k = omega (arith, to, length_taken k all within) in
-        let shown : HoldsAll (entries c) (take n all) = subst (HoldsAll (entries c)) (taken_twice n k all le) holds in
+        let shown : HoldsOnly 1 (entries c) (take n all) = subst (HoldsOnly 1 (entries c)) (taken_twice n k all le) (holds.1 left_none) in
         elim (cases_eq n (length rs)) [
-          | inl is ↦ inl (subst (HoldsAll (entries c)) (ap (λ (m : ℕ). take m all) is ∙ taken_front rs (r ∷ [])) shown)
-          | inr more ↦ inr (subst (HoldsAll (entries c)) (ap (λ (m : ℕ). take m all) (last more le) ∙ taken_all all) shown)
+          | inl is ↦ inl (subst (HoldsOnly 1 (entries c)) (ap (λ (m : ℕ). take m all) is ∙ taken_front rs (r ∷ [])) shown)
+          | inr more ↦ inr (subst (HoldsOnly 1 (entries c)) (ap (λ (m : ℕ). take m all) (last more le) ∙ taken_all all) shown)
         ]
       where
         last : n ≢ length rs → n ≤ k → n ≡ length (rs ++ r ∷ [])
         last apart le = omega (arith, apart, from, le, within, h.synced, length-append rs (r ∷ []))
 
     pub holds_within : (left : Image → Type 0) → IsPrefix new.taker.taken (map spelling (rs ++ r ∷ [])) → Placed (log_of (rs ++ r ∷ []))
-        → (IsWellOpened reads may_leave new.opened → (log : Log) → IsLog reads new log → Placed log → WasEmpty reads new.opened → (c : Image) → left c → HoldsFrom old.synced log c)
+        → (IsWellOpened reads may_leave new.opened → (log : Log) → IsLog reads new log → Placed log → WasEmpty reads new.opened → (c : Image) → left c → HoldsFrom (LeftNoFile may_leave new.opened) old.synced log c)
         → (c : Image) → left c → HoldsOneMore rs r c
     holds_within left front placed whole c is_left =
         let (k, within, taken) = prefix_taken spelling new.taker.taken (rs ++ r ∷ []) front in
@@ -264,7 +265,7 @@ module _ {D : Type 0} (tells : D → Bool) (reads : D → Image) (may_leave : D 
     pub synced_is : new.synced ≡ length (rs ++ r ∷ [])
     synced_is = omega (arith, wrote.synced, wrote.counted, gathered.one, h.synced, length-append rs (r ∷ []))
 
-    pub one_written : (IsTrue (tells old.disk) → IsWellOpened reads may_leave new.opened → (log : Log) → IsLog reads new log → Placed log → WasEmpty reads new.opened → (c : Image) → may_leave new.disk c → HoldsAll (entries c) (take new.synced log.records))
+    pub one_written : (IsTrue (tells old.disk) → IsWellOpened reads may_leave new.opened → (log : Log) → IsLog reads new log → Placed log → WasEmpty reads new.opened → (c : Image) → may_leave new.disk c → HoldsLog (LeftNoFile may_leave new.opened) 0 (entries c) (take new.synced log.records))
         → HasWritten tells reads may_leave new (rs ++ r ∷ [])
     one_written durable =
         let long : length (rs ++ r ∷ []) ≡ length rs + 1 = length-append rs (r ∷ []) in
@@ -282,14 +283,16 @@ module _ {D : Type 0} (tells : D → Bool) (reads : D → Image) (may_leave : D 
           holds = λ told_now left_no placed c left.
               let told_before : IsTrue (tells old.disk) = subst IsTrue told told_now in
               let empty_then : reads new.opened ≡ empty = ap reads opened ∙ h.opened (subst IsTrue h.told told_before) in
-              subst (HoldsAll (entries c)) (ap (λ (n : ℕ). take n (rs ++ r ∷ [])) synced_is ∙ taken_all (rs ++ r ∷ []))
-              (durable told_before (well_opened new.opened empty_then left_no) (log_of (rs ++ r ∷ [])) (writes_log new (rs ++ r ∷ []) empty_then taken_is) placed (was_empty new.opened empty_then) c left);
+              subst (HoldsOnly 0 (entries c)) (ap (λ (n : ℕ). take n (rs ++ r ∷ [])) synced_is ∙ taken_all (rs ++ r ∷ []))
+              ((durable told_before (well_opened new.opened empty_then left_no) (log_of (rs ++ r ∷ [])) (writes_log new (rs ++ r ∷ []) empty_then taken_is) placed (was_empty new.opened empty_then) c left).1 left_no);
         }
 
 -- ---- the opening
 
-pub empty_holds : (c : Image) → c ≡ empty → HoldsAll (entries c) []
-empty_holds c is = subst (λ files. HoldsAll files []) (sym (ap (λ (i : Image). entries i) is ∙ entries_empty)) (record { rising = refl; segments = []; each = tt; follow = refl; shown = refl })
+pub empty_holds : (c : Image) → c ≡ empty → HoldsOnly 1 (entries c) []
+empty_holds c is =
+    subst (λ files. HoldsOnly 1 files []) (sym (no_entries c is))
+    (record { all = record { rising = refl; segments = []; each = tt; follow = refl; shown = refl }; order = no_files 1 1 })
 
 -- ---- why a group wasn't written
 

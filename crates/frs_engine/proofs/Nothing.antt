@@ -2,15 +2,13 @@
 use Rattle.std.proofs.Common.{◌≡◌, ◌∙◌, ap, sym, refl, subst, arith, rules, ℕ, List, [], ◌∷◌, map, length}
 use Rattle.std.specs.Prelude.{◌==◌, Bool, true, Option, None, IsSome}
 use Rattle.std.specs.Ordering.{nat_cmp}
-use Rattle.std.specs.FinMap.{entries, empty, keys, get, get-empty, same_entries_map, entries-from_sorted}
+use Rattle.std.specs.FinMap.{entries, empty, keys, get, get-empty, same_entries_map}
 use Rattle.frs_disk.specs.Disk.{Image}
-use Rattle.frs_disk.specs.Choices.{image_of-none}
 use Rattle.frs_history.specs.declared.event.Ack.{Ack}
 use Rattle.frs_history.specs.Machine.{Changes}
+use Rattle.frs_disk.proofs.NoFiles.{entries_empty, no_entries}
+use Rattle.frs_segment.proofs.Order.{no_files}
 use Rattle.frs_engine.specs.Promise.{ShowsPuts, Survives}
-
-pub entries_empty : entries {X = List ℕ} {R = nat_cmp} empty ≡ []
-entries_empty = ap (λ (i : Image). entries i) (sym image_of-none) ∙ entries-from_sorted nat_cmp [] tt
 
 -- no numbers, no files
 pub none_by_map : {A B : Type 0} (f : A → B) (xs : List A) → map f xs ≡ [] → xs ≡ []
@@ -28,11 +26,11 @@ none_there image n is some = let there : IsSome (get (empty {X = List ℕ} {R = 
     let gone : IsSome {T = List ℕ} None = subst (λ (o : Option (List ℕ)). IsSome o) (get-empty nat_cmp n) there in cc
 
 -- no file shows no record
-none_shown : (commits : List Changes) → ShowsPuts [] commits 0 0
-none_shown commits = record { segments = []; each = tt; follow = refl; newest = refl; lawful = refl; kinds = refl; count = refl; known = omega arith; maps = refl }
+none_shown : (commits : List Changes) → ShowsPuts 1 [] commits 0 0
+none_shown commits = record { segments = []; each = tt; follow = refl; order = no_files 1 1; newest = refl; lawful = refl; kinds = refl; count = refl; known = omega arith; maps = refl }
 
-pub empty_shown : (commits : List Changes) (image : Image) → image ≡ empty → ShowsPuts (entries image) commits 0 0
-empty_shown commits image is = subst (λ (files : List (ℕ × List ℕ)). ShowsPuts files commits 0 0) (sym (ap (λ (i : Image). entries i) is ∙ entries_empty)) (none_shown commits)
+pub empty_shown : (commits : List Changes) (image : Image) → image ≡ empty → ShowsPuts 1 (entries image) commits 0 0
+empty_shown commits image is = subst (λ (files : List (ℕ × List ℕ)). ShowsPuts 1 files commits 0 0) (sym (no_entries image is)) (none_shown commits)
 
 pub nothing_survives : (commits : List Changes) (acks : List Ack) (left now : Image → Type 0) → acks ≡ [] → ((image : Image) → left image → image ≡ empty) → ((image : Image) → now image → image ≡ empty)
     → Survives commits acks left now

@@ -13,7 +13,7 @@ use Rattle.frs_types.specs.Records.{has_words}
 use Rattle.frs_types.specs.Maps.{Maps, Table, Change, place_cmp}
 use Rattle.frs_types.specs.Maps.Change.{Set}
 use Rattle.frs_types.specs.Lawful.{Held, plain}
-use Rattle.frs_disk.specs.Disk.{Image}
+use Rattle.frs_disk.specs.Disk.{Image, LeftNoFile}
 use Rattle.frs_frame.specs.Spelling.{spelling}
 use Rattle.frs_history.specs.declared.command.Command.TheVariants as command
 use Rattle.frs_history.specs.declared.command.Line.{Line}
@@ -26,15 +26,15 @@ use Rattle.frs_history.specs.Machine.{Changes, start, value_or_none}
 use Rattle.frs_engine.specs.declared.journal.Journal.{Journal}
 use Rattle.frs_engine.specs.declared.session.Run.{Run}
 use Rattle.frs_engine.specs.Entries.{table}
-use Rattle.frs_engine.specs.Journal.{LeftNoFile, HoldsOneMore}
+use Rattle.frs_engine.specs.Journal.{HoldsOneMore}
 use Rattle.frs_engine.specs.Promise.{commits_of_run, owed_acks, puts, puts_by, is_own, Tells, Shows, ShowsPuts, ShowsAcked, ShowsAll, Completes, is_whole_in}
 use Rattle.frs_engine.specs.Session.{drawn, drawn_put, state_at, answer, IsLog, IsAnswered, IsReady, IsToldAlike, IsFresh, commits_so_far, Extends}
-use Rattle.frs_writer.specs.Writing.{HoldsAll}
+use Rattle.frs_writer.specs.Writing.{HoldsOnly}
 use Rattle.std.specs.FinMap.{entries}
 use Rattle.frs_engine.proofs.Answering.{put_run, put_commits, put_owed, get_run, get_commits, get_owed, acks_within}
 use Rattle.frs_engine.proofs.Logging.{log_start, puts-push, log-put, log-mark}
 use Rattle.frs_engine.proofs.Nothing.{none_by_map}
-use Rattle.frs_engine.proofs.Showing.{records_show}
+use Rattle.frs_engine.proofs.Showing.{records_show, holds_more}
 use Rattle.frs_engine.proofs.Tables.{find-plain, plain-put}
 
 -- ---- what a run that is ready says
@@ -48,9 +48,9 @@ answered_tells rs r a = record {
   but_last = omega arith;
 }
 
-acked_records : (rs : List Record) (r : Run) (commits more : List Changes) (c : Image) → IsAnswered rs r → commits ≡ each_alone (puts rs) ++ more → HoldsAll (entries c) rs → ShowsAcked commits r.acks.items c
+acked_records : (rs : List Record) (r : Run) (commits more : List Changes) (c : Image) → IsAnswered rs r → commits ≡ each_alone (puts rs) ++ more → HoldsOnly 1 (entries c) rs → ShowsAcked commits r.acks.items c
 acked_records rs r commits more c a is holds =
-    (length rs, length (puts rs), a.within, omega (arith, a.counted), records_show c rs (table r.entries.items) (length rs + 1) commits more a.log is holds)
+    (length rs, length (puts rs), a.within, omega (arith, a.counted), records_show 1 c rs (table r.entries.items) (length rs + 1) commits more a.log is holds)
 
 module _ {D : Type 0} (tells : D → Bool) (reads : D → Image) (may_leave : D → Image → Type 0) (j : Journal D) (r : Run) (ready : IsReady tells reads may_leave j r) where
   -- the records are as many as were drawn
@@ -63,11 +63,11 @@ module _ {D : Type 0} (tells : D → Bool) (reads : D → Image) (may_leave : D 
   ready_open (inr one) = inr (omega (arith, ready_drawn, one, ready.answered.counted))
 
   module _ (told : IsTrue (tells j.writer.disk)) (none : LeftNoFile may_leave j.writer.opened) (c : Image) (left : may_leave j.writer.disk c) where
-    ready_holds : HoldsAll (entries c) ready.records
+    ready_holds : HoldsOnly 0 (entries c) ready.records
     ready_holds = ready.written.written.holds told none ready.answered.log.placed c left
 
     pub ready_now : ShowsAcked (commits_so_far r) r.acks.items c
-    ready_now = acked_records ready.records r (commits_so_far r) [] c ready.answered (ready.answered.commits ∙ sym (append-nil (each_alone (puts ready.records)))) ready_holds
+    ready_now = acked_records ready.records r (commits_so_far r) [] c ready.answered (ready.answered.commits ∙ sym (append-nil (each_alone (puts ready.records)))) (holds_more ready_holds)
 
     pub ready_all : length j.drawer.drawn ≡ length r.acks.items + 2 → ShowsAll (commits_so_far r) c
     ready_all marks =
@@ -75,9 +75,9 @@ module _ {D : Type 0} (tells : D → Bool) (reads : D → Image) (may_leave : D 
         let a = ready.answered in
         let all : length (puts rs) ≡ length (commits_so_far r) = sym (ap length a.commits ∙ length-map (puts rs) (λ (x : Change (List ℕ)). x ∷ [])) in
         let count : length rs ≡ length (commits_so_far r) + 2 = omega (arith, ready_drawn, a.counted, all, marks) in
-        subst (λ (n : ℕ). ShowsPuts (entries c) (commits_so_far r) n (length (commits_so_far r))) count
-        (subst (ShowsPuts (entries c) (commits_so_far r) (length rs)) all
-        (records_show c rs (table r.entries.items) (length rs + 1) (commits_so_far r) [] a.log (a.commits ∙ sym (append-nil (each_alone (puts rs)))) ready_holds))
+        subst (λ (n : ℕ). ShowsPuts 0 (entries c) (commits_so_far r) n (length (commits_so_far r))) count
+        (subst (ShowsPuts 0 (entries c) (commits_so_far r) (length rs)) all
+        (records_show 0 c rs (table r.entries.items) (length rs + 1) (commits_so_far r) [] a.log (a.commits ∙ sym (append-nil (each_alone (puts rs)))) ready_holds))
 
 -- ---- one more record, of either kind
 
@@ -91,7 +91,7 @@ module _ (rs : List Record) (old : Run) (a : IsAnswered rs old) (r : Record) (u 
         length (puts (rs ++ r ∷ [])),
         acks_within (length rs) (length (rs ++ r ∷ [])) old.acks.items (omega (arith, length-append rs (r ∷ []))) a.within,
         omega (arith, a.counted, ap length (puts-push rs r), length-append (puts rs) (puts_by r.action)),
-        records_show c (rs ++ r ∷ []) u (length rs + 1 + 1) commits [] log (after ∙ sym (append-nil (each_alone (puts (rs ++ r ∷ []))))) next,
+        records_show 1 c (rs ++ r ∷ []) u (length rs + 1 + 1) commits [] log (after ∙ sym (append-nil (each_alone (puts (rs ++ r ∷ []))))) next,
       ))
       holds
 
@@ -282,5 +282,5 @@ answered_completes rs r a done =
     }
 
 -- without a record no put is shown
-pub none_shown : (c : Image) (commits : List Changes) → HoldsAll (entries c) [] → Shows commits c
-none_shown c commits holds = (0, 0, records_show c [] [] 1 commits commits log_start refl holds)
+pub none_shown : (c : Image) (commits : List Changes) → HoldsOnly 1 (entries c) [] → Shows commits c
+none_shown c commits holds = (0, 0, records_show 1 c [] [] 1 commits commits log_start refl holds)

@@ -11,17 +11,19 @@ use Rattle.frs_history.specs.declared.event.Ack.{Ack}
 use Rattle.frs_history.specs.Histories.{each_alone}
 use Rattle.frs_history.specs.Machine.{Changes}
 use Rattle.frs_segment.specs.Segments.{File}
-use Rattle.frs_writer.specs.Writing.{HoldsAll}
+use Rattle.frs_writer.specs.Writing.{HoldsOnly}
+use Rattle.frs_segment.proofs.Order.{more_half}
 use Rattle.frs_engine.specs.Promise.{puts, are_of_run, ShowsPuts, Shows, ShowsAcked}
 use Rattle.frs_engine.specs.Session.{IsLog, Extends}
 
 -- ---- more commits
 
-shows_more : (files : List File) (commits new : List Changes) (n j : ℕ) → Extends commits new → ShowsPuts files commits n j → ShowsPuts files new n j
-shows_more files commits new n j more shows = record {
+shows_more : (half : ℕ) (files : List File) (commits new : List Changes) (n j : ℕ) → Extends commits new → ShowsPuts half files commits n j → ShowsPuts half files new n j
+shows_more half files commits new n j more shows = record {
   segments = shows.segments;
   each = shows.each;
   follow = shows.follow;
+  order = shows.order;
   newest = shows.newest;
   lawful = shows.lawful;
   kinds = shows.kinds;
@@ -31,27 +33,32 @@ shows_more files commits new n j more shows = record {
 }
 
 pub known_more : (commits new : List Changes) (c : Image) → Extends commits new → Shows commits c → Shows new c
-known_more commits new c more (n, j, shows) = (n, j, shows_more (entries c) commits new n j more shows)
+known_more commits new c more (n, j, shows) = (n, j, shows_more 1 (entries c) commits new n j more shows)
 
 pub known_acked : (commits : List Changes) (acks : List Ack) (c : Image) → ShowsAcked commits acks c → Shows commits c
 known_acked commits acks c (n, j, lsns, counted, shows) = (n, j, shows)
 
 -- ---- the records of a log
 
+-- where no file is half-made at most one is
+pub holds_more : {image : List File} {records : List Record} → HoldsOnly 0 image records → HoldsOnly 1 image records
+holds_more holds = record { all = holds.all; order = more_half holds.order }
+
 each_after : (m : Maps) (cs : Changes) (more : List Changes) → fold changed_by m (take (length cs) (each_alone cs ++ more)) ≡ changed_by m cs
 each_after m [] more = refl
 each_after m (c ∷ cs) more = each_after (changed m c) cs more
 
-pub records_show : (c : Image) (rs : List Record) (t : Table Held) (n : ℕ) (commits more : List Changes) → IsLog rs t n → commits ≡ each_alone (puts rs) ++ more → HoldsAll (entries c) rs
-    → ShowsPuts (entries c) commits (length rs) (length (puts rs))
-records_show c rs t n commits more log is holds = record {
-  segments = holds.segments;
-  each = holds.each;
-  follow = holds.follow;
-  newest = ap length holds.shown;
-  lawful = subst (Lawful [] 1) (sym holds.shown) log.lawful;
-  kinds = ap are_of_run holds.shown ∙ log.kinds;
-  count = ap (λ (l : List Record). length (puts l)) holds.shown;
+pub records_show : (half : ℕ) (c : Image) (rs : List Record) (t : Table Held) (n : ℕ) (commits more : List Changes) → IsLog rs t n → commits ≡ each_alone (puts rs) ++ more → HoldsOnly half (entries c) rs
+    → ShowsPuts half (entries c) commits (length rs) (length (puts rs))
+records_show half c rs t n commits more log is holds = record {
+  segments = holds.all.segments;
+  each = holds.all.each;
+  follow = holds.all.follow;
+  order = holds.order;
+  newest = ap length holds.all.shown;
+  lawful = subst (Lawful [] 1) (sym holds.all.shown) log.lawful;
+  kinds = ap are_of_run holds.all.shown ∙ log.kinds;
+  count = ap (λ (l : List Record). length (puts l)) holds.all.shown;
   known = omega (arith, ap length is, length-append (each_alone (puts rs)) more, length-map (puts rs) (λ (x : Change (List ℕ)). x ∷ []));
-  maps = ap (λ (l : List Record). changed_by [] (puts l)) holds.shown ∙ sym (each_after [] (puts rs) more) ∙ ap (λ (cs : List Changes). After [] cs (length (puts rs))) (sym is);
+  maps = ap (λ (l : List Record). changed_by [] (puts l)) holds.all.shown ∙ sym (each_after [] (puts rs) more) ∙ ap (λ (cs : List Changes). After [] cs (length (puts rs))) (sym is);
 }

@@ -73,14 +73,10 @@ IsNotYet plan told bytes listed =
 -- the files' count has risen, and `listed` that the disk lists a file.
 abbrev pub IsCause : RunPlan → Bool → Option (List ℕ) → Type 0 → Type 0 → Type 0 → List Line → List Event → Ending → Type 0
 IsCause plan told bytes rose failed listed script events Closed = IsTrue told → Spells bytes script
-IsCause plan told bytes rose failed listed script events (Bad n) = IsTrue told → (file : List ℕ) × (bytes ≡ Some file) × (parsed file ≡ Err (BadLine n))
-IsCause plan told bytes rose failed listed script events (Long n) = IsTrue told → (file : List ℕ) × (bytes ≡ Some file) × (parsed file ≡ Err (TooLong n))
 IsCause plan told bytes rose failed listed script events Disk = rose × (IsTrue told → Spells bytes script)
-IsCause plan told bytes rose failed listed script events Unread = failed
-IsCause plan told bytes rose failed listed script events (Past n) = IsTrue told → (file : List ℕ) × (bytes ≡ Some file) × (parsed file ≡ Err (TooMany n))
-IsCause plan told bytes rose failed listed script events (Crowded n) = (one_file plan ≡ None) × (ending_of_plan plan ≡ Crowded n)
 IsCause plan told bytes rose failed listed script events Memory = (events ≡ []) ⊎ (IsTrue told → Spells bytes script)
 IsCause plan told bytes rose failed listed script events Later = IsNotYet plan told bytes listed
+IsCause plan told bytes rose failed listed script events other = IsUnread plan told bytes failed other
 
 -- a run that was begun ends so
 abbrev pub IsEndOfRun : Ending → Type 0

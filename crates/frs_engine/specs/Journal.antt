@@ -5,23 +5,19 @@ use Rattle.frs_types.specs.declared.record.Record.{Record}
 use Rattle.frs_types.specs.Records.{Log, Placed}
 use Rattle.frs_disk.specs.declared.disk.Fault.{Fault}
 use Rattle.frs_disk.specs.declared.disk.Fault.TheVariants.{Failed, Memory}
-use Rattle.frs_disk.specs.Disk.{Image, Rose}
+use Rattle.frs_disk.specs.Disk.{Image, Rose, LeftNoFile}
 use Rattle.frs_frame.specs.Spelling.{spelling}
 use Rattle.frs_slots.specs.Views.{AreOfOneRing}
 use Rattle.frs_writer.specs.declared.fault.WriteFault.{WriteFault}
 use Rattle.frs_writer.specs.declared.fault.WriteFault.TheVariants as write
 use Rattle.frs_writer.specs.Places.{number_of_newest}
 use Rattle.frs_writer.specs.Writer.{WriterView}
-use Rattle.frs_writer.specs.Writing.{HoldsAll}
+use Rattle.frs_writer.specs.Writing.{HoldsOnly}
 use Rattle.frs_engine.specs.declared.journal.Journal.{Journal}
 
 -- a log from LSN 1 on
 abbrev pub log_of : List Record → Log
 log_of records = record { first = 1; records = records }
-
--- a crash at the opening would have left no file
-abbrev pub LeftNoFile : {D : Type 0} → (D → Image → Type 0) → D → Type 0
-LeftNoFile may_leave disk = (c : Image) → may_leave disk c → c ≡ empty
 
 -- ---- what was written
 
@@ -37,7 +33,7 @@ pub record HasWritten {D : Type 0} (tells : D → Bool) (reads : D → Image) (m
   pub noted : (lsn : ℕ) × (w.noted ≡ lsn ∷ []) × (lsn ≤ length records)
   pub told : tells w.disk ≡ tells w.opened
   pub opened : IsTrue (tells w.opened) → reads w.opened ≡ empty
-  pub holds : IsTrue (tells w.disk) → LeftNoFile may_leave w.opened → Placed (log_of records) → (c : Image) → may_leave w.disk c → HoldsAll (entries c) records
+  pub holds : IsTrue (tells w.disk) → LeftNoFile may_leave w.opened → Placed (log_of records) → (c : Image) → may_leave w.disk c → HoldsOnly 0 (entries c) records
 
 -- the two ends are of one ring, on which these records were drawn
 pub record HasDrawn {D : Type 0} (j : Journal D) (records : List Record) : Type 0 where
@@ -62,9 +58,9 @@ pub record IsPublished {D : Type 0} (tells : D → Bool) (reads : D → Image) (
 
 -- ---- what a crash leaves
 
--- these records, or one more
+-- these records, or one more, and at most one half-made file
 abbrev pub HoldsOneMore : List Record → Record → Image → Type 0
-HoldsOneMore records r c = HoldsAll (entries c) records ⊎ HoldsAll (entries c) (records ++ r ∷ [])
+HoldsOneMore records r c = HoldsOnly 1 (entries c) records ⊎ HoldsOnly 1 (entries c) (records ++ r ∷ [])
 
 -- ---- why a call was refused
 

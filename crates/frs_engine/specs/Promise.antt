@@ -16,6 +16,7 @@ use Rattle.frs_history.specs.declared.event.Event.{Event}
 use Rattle.frs_history.specs.Histories.{moments, commits_from, owed, Legal, is_active, run}
 use Rattle.frs_history.specs.Machine.{Scripts, State, Changes, start, client, next_line}
 use Rattle.frs_disk.specs.Disk.{Image}
+use Rattle.frs_segment.specs.Order.{IsInOrder}
 use Rattle.frs_segment.specs.Segments.{File, Segment, IsSegment, open_files, all_records, follow_from}
 
 -- ---- the script, its commits and what is owed
@@ -100,11 +101,13 @@ are_of_run (r ∷ rs) = is_mark r && are_puts rs
 
 -- The open files are segments that follow each other from LSN 1 on. Their newest LSN is n, their records are those of one
 -- run as far as it has come, lawful from an empty store on, and their j put records, applied oldest first, are the maps
--- after the first j commits, of which there are so many. A half-made file shows no record.
-pub record ShowsPuts (files : List File) (commits : List Changes) (n j : ℕ) : Type 0 where
+-- after the first j commits, of which there are so many. The files are in order: their numbers are those
+-- from 1 on, at most so many are half-made, above the segments, and each but the newest has a record.
+pub record ShowsPuts (most : ℕ) (files : List File) (commits : List Changes) (n j : ℕ) : Type 0 where
   pub segments : List Segment
   pub each : AllZip IsSegment (open_files files) segments
   pub follow : IsTrue (follow_from 1 segments)
+  pub order : IsInOrder most (n + 1) files segments
   pub newest : length (all_records segments) ≡ n
   pub lawful : Lawful [] 1 (all_records segments)
   pub kinds : IsTrue (are_of_run (all_records segments))
@@ -112,17 +115,18 @@ pub record ShowsPuts (files : List File) (commits : List Changes) (n j : ℕ) : 
   pub known : j ≤ length commits
   pub maps : changed_by [] (puts (all_records segments)) ≡ After [] commits j
 
--- some newest LSN and some number of commits
+-- some newest LSN and some number of commits, and one half-made file at most
 abbrev pub Shows : List Changes → Image → Type 0
-Shows commits image = (n : ℕ) × (j : ℕ) × ShowsPuts (entries image) commits n j
+Shows commits image = (n : ℕ) × (j : ℕ) × ShowsPuts 1 (entries image) commits n j
 
 -- the same, with every acknowledged put
 abbrev pub ShowsAcked : List Changes → List Ack → Image → Type 0
-ShowsAcked commits acks image = (n : ℕ) × (j : ℕ) × IsTrue (list_all (λ (a : Ack). nat_le a.lsn n) acks) × (length acks ≤ j) × ShowsPuts (entries image) commits n j
+ShowsAcked commits acks image = (n : ℕ) × (j : ℕ) × IsTrue (list_all (λ (a : Ack). nat_le a.lsn n) acks) × (length acks ≤ j) × ShowsPuts 1 (entries image) commits n j
 
--- the same, with every commit, and with both marks: that of the opening, and that of the close behind the puts
+-- The same, with every commit, and with both marks: that of the opening, and that of the close behind the puts. No file is
+-- half-made.
 abbrev pub ShowsAll : List Changes → Image → Type 0
-ShowsAll commits image = ShowsPuts (entries image) commits (length commits + 2) (length commits)
+ShowsAll commits image = ShowsPuts 0 (entries image) commits (length commits + 2) (length commits)
 
 -- What a crash leaves: `left` are the images of a crash at some moment since the start, `now` those of one at this moment.
 pub record Survives (commits : List Changes) (acks : List Ack) (left now : Image → Type 0) : Type 0 where

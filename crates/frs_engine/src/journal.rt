@@ -3,12 +3,12 @@ ghost use Rattle.std.specs.Prelude.{◌≡◌, ◌+◌, ◌<◌, ◌^◌, ◌++�
 ghost use Rattle.std.specs.FinMap.{entries, empty};
 ghost use Rattle.frs_types.specs.declared.record.Record.{Record};
 ghost use Rattle.frs_types.specs.Records.{Placed};
-ghost use Rattle.frs_disk.specs.Disk.{Passes, Within};
+ghost use Rattle.frs_disk.specs.Disk.{Passes, Within, LeftNoFile};
 ghost use Rattle.frs_frame.specs.Spelling.{spelling};
 ghost use Rattle.frs_segment.specs.Stores.{IsFound};
 ghost use Rattle.frs_slots.specs.Views.{AreOfOneRing};
-ghost use Rattle.frs_writer.specs.Writing.{HoldsAll};
-ghost use Rattle.frs_engine.specs.Journal.{LeftNoFile, IsWritten, IsNext, IsPublished, HoldsOneMore, log_of, IsOutside, outside, FaultHasCause, CallHasCause};
+ghost use Rattle.frs_writer.specs.Writing.{HoldsOnly};
+ghost use Rattle.frs_engine.specs.Journal.{IsWritten, IsNext, IsPublished, HoldsOneMore, log_of, IsOutside, outside, FaultHasCause, CallHasCause};
 
 use frs_disk::{Disk, Fault};
 use frs_frame::Framed;
@@ -77,9 +77,9 @@ impl<D: Disk> Journal<D> {
         ensures written { IfOk result (λ j. IsWritten D.tells D.reads D.may_leave j []) }
         ensures opened { IfOk result (λ j. j.writer.opened ≡ disk) }
         ensures images { IfOk result (λ j. IsTrue (D.tells disk) → LeftNoFile D.may_leave disk
-            → Within D.moment D.left_since disk j.writer.disk (λ c. HoldsAll (entries c) [])) }
+            → Within D.moment D.left_since disk j.writer.disk (λ c. HoldsOnly 1 (entries c) [])) }
         ensures images_refused { IfErr result (λ e. IsTrue (D.tells disk) → LeftNoFile D.may_leave disk
-            → Within D.moment D.left_since disk e.disk (λ c. HoldsAll (entries c) [])) }
+            → Within D.moment D.left_since disk e.disk (λ c. HoldsOnly 1 (entries c) [])) }
         ensures told { (IfOk result (λ j. D.tells j.writer.disk ≡ D.tells disk)) × IfErr result (λ e. D.tells e.disk ≡ D.tells disk) }
         ensures time { (IfOk result (λ j. Passes D.moment D.left_since disk j.writer.disk)) × IfErr result (λ e. Passes D.moment D.left_since disk e.disk) }
         ensures cause { (IfOk result (λ j. D.faults j.writer.disk ≡ D.faults disk)) × IfErr result (λ e. FaultHasCause (D.faults disk) (D.faults e.disk) e.fault) }
@@ -190,6 +190,7 @@ impl<D: Disk> Journal<D> {
     pub(crate) fn acknowledge(&mut self, lsn: u64)
         requires { (records : List Record) × IsWritten D.tells D.reads D.may_leave self.old records × (lsn ≡ length records) }
         ensures written { (records : List Record) → IsWritten D.tells D.reads D.may_leave self.old records → IsWritten D.tells D.reads D.may_leave self.new records }
+        ensures noted { self.new.writer.noted ≡ lsn ∷ [] }
         ensures drawer { self.new.drawer ≡ self.old.drawer }
         ensures disk { (self.new.writer.disk ≡ self.old.writer.disk) × (self.new.writer.opened ≡ self.old.writer.opened) }
     {

@@ -3,14 +3,14 @@ ghost use Rattle.std.specs.Prelude.{◌≡◌, ◌≢◌, ◌⊎◌, ◌++◌, �
 ghost use Rattle.std.specs.FinMap.{entries};
 ghost use Rattle.std.specs.String.{string_bytes};
 ghost use Rattle.frs_types.specs.Records.{Log};
-ghost use Rattle.frs_disk.specs.Disk.{HasCause, Keeps, Passes, Rose, Within};
+ghost use Rattle.frs_disk.specs.Disk.{HasCause, Passes, Rose};
 ghost use Rattle.frs_disk.specs.Outside.{AddsPartOf};
 ghost use Rattle.frs_segment.specs.Segments.{Segment, SpellsBy};
 ghost use Rattle.frs_recovery.specs.declared.fault.RecoverFault.{RecoverFault as Refusal};
 ghost use Rattle.frs_recovery.specs.Wrong.{IsWrongFirst};
 ghost use Rattle.frs_text.specs.Text.{Text, line};
 ghost use Rattle.frs_text.specs.declared.plan.PlainPlan.TheVariants.{Compact};
-ghost use Rattle.frs_engine.specs.Runs.{IsReported, IsSteady, Prints};
+ghost use Rattle.frs_engine.specs.Runs.{IsReported, IsOnlyLookedAt, IsSteady, Prints};
 ghost use Rattle.frs_engine.specs.Looks.{refusal_status, refusal_text, finding_status, finding_text, maps_finding, numbers_finding, is_plain_status, IsSaid, IsPrintable};
 
 use frs_disk::{Disk, Fault, Sink};
@@ -108,11 +108,8 @@ fn look<D: Disk>(alloc: Global, plan: &PlainPlan, disk: &mut D) -> Finding
     ensures printable { IsPrintable result }
     ensures unread { plan.now ≡ Compact → disk.new ≡ disk.old }
     ensures told { D.tells disk.new ≡ D.tells disk.old }
-    ensures seen { D.reads disk.new ≡ D.reads disk.old }
-    ensures pending { (n : ℕ) → D.removing disk.new n → D.removing disk.old n }
-    ensures crash { Keeps (D.may_leave disk.old) (D.may_leave disk.new) }
+    ensures looked { IsOnlyLookedAt D.reads D.may_leave D.moment D.left_since D.removing disk.old disk.new }
     ensures time { Passes D.moment D.left_since disk.old disk.new }
-    ensures within { Within D.moment D.left_since disk.old disk.new (D.may_leave disk.old) }
 {
     stat_of_store();
     match plan {
@@ -234,11 +231,8 @@ pub fn frs_plain<D: Disk, S: Sink>(
     // Nothing on the disk changes, at no moment.
     ensures unread { plan.now ≡ Compact → result.disk ≡ disk }
     ensures told { D.tells result.disk ≡ D.tells disk }
-    ensures seen { D.reads result.disk ≡ D.reads disk }
-    ensures pending { (n : ℕ) → D.removing result.disk n → D.removing disk n }
-    ensures crash { Keeps (D.may_leave disk) (D.may_leave result.disk) }
+    ensures looked { IsOnlyLookedAt D.reads D.may_leave D.moment D.left_since D.removing disk result.disk }
     ensures time { Passes D.moment D.left_since disk result.disk }
-    ensures within { Within D.moment D.left_since disk result.disk (D.may_leave disk) }
 {
     let mut disk = disk;
     let finding = look(alloc, plan, &mut disk);

@@ -1,16 +1,15 @@
 //! Runs the scripts of a plan against a disk.
 ghost use Rattle.std.specs.Prelude.{◌≡◌, ◌≢◌, ◌⊎◌, ◌<◌, ◌^◌, ℕ, List, Some, None, Ok, Err, [], false, length, IsTrue};
-ghost use Rattle.std.specs.FinMap.{empty, keys};
+ghost use Rattle.std.specs.FinMap.{keys};
 ghost use Rattle.frs_history.specs.declared.command.Line.{Line};
 ghost use Rattle.frs_history.specs.declared.event.Ack.{Ack as Acknowledged};
 ghost use Rattle.frs_history.specs.declared.event.Event.{Event as Happened};
-ghost use Rattle.frs_disk.specs.Disk.{Image, Passes, Rose, NoneRemovedAbove};
+ghost use Rattle.frs_disk.specs.Disk.{Image, Passes, Rose, NoneRemovedAbove, LeftNoFile};
 ghost use Rattle.frs_text.specs.declared.script_fault.ScriptFault.{ScriptFault as Refusal};
 ghost use Rattle.frs_text.specs.declared.script_fault.ScriptFault.TheVariants as refusal;
 ghost use Rattle.frs_engine.specs.declared.report.Ending.{Ending as Decided};
 ghost use Rattle.frs_engine.specs.Causes.{one_file, bytes_of_plan, ending_of_plan, HasOthers, IsForLater, IsCause, IsEndOfRun};
 ghost use Rattle.frs_engine.specs.Endings.{parsed, ending_by, ending_of_stop, status_of, text_of};
-ghost use Rattle.frs_engine.specs.Journal.{LeftNoFile};
 ghost use Rattle.frs_engine.specs.Promise.{has_puts_and_gets, commits_of_run, Tells, Survives, Completes, ShowsAll};
 ghost use Rattle.frs_engine.specs.Runs.{IsRun, IsReported, IsOnlyLookedAt, HasWork, IsSteady, is_status};
 
@@ -128,7 +127,7 @@ fn attempt<D: Disk, F: Files>(alloc: Global, plan: &RunPlan, disk: D, files: &mu
     requires { IsTrue (D.tells disk) → NoneRemovedAbove D.reads D.removing disk }
 
     ensures run { IsRun (status_of result.outcome.ending)
-        (IsTrue (D.tells disk) × ((c : Image) → D.may_leave disk c → c ≡ empty))
+        (IsTrue (D.tells disk) × LeftNoFile D.may_leave disk)
         (D.left_since result.disk (D.moment disk)) (D.may_leave result.disk) result.outcome.script result.outcome.events.items result.outcome.acks.items }
     ensures cause { IsCause plan.now (F.tells files.old) (bytes_of_plan plan.now (F.file files.old)) (Rose (D.faults disk) (D.faults result.disk)) (Rose (F.faults files.old) (F.faults files.new))
         (IsTrue (D.tells disk) → keys (D.reads disk) ≢ [])
@@ -188,7 +187,7 @@ pub fn frs_run<
     // What was run is a legal history of the script, every put in it but at most the last is acknowledged, and a crash
     // at any moment leaves the maps after some of its commits, with all acknowledged ones. What was printed is its text.
     ensures run { (ending : Decided) × (script : List Line) × (events : List Happened) × (acks : List Acknowledged)
-        × IsRun (status_of ending) (IsTrue (D.tells disk) × ((c : Image) → D.may_leave disk c → c ≡ empty))
+        × IsRun (status_of ending) (IsTrue (D.tells disk) × LeftNoFile D.may_leave disk)
         (D.left_since result.disk (D.moment disk)) (D.may_leave result.disk) script events acks
         × IsCause plan.now (F.tells files.old) (bytes_of_plan plan.now (F.file files.old)) (Rose (D.faults disk) (D.faults result.disk)) (Rose (F.faults files.old) (F.faults files.new))
         (IsTrue (D.tells disk) → keys (D.reads disk) ≢ []) script events ending

@@ -9,12 +9,12 @@ ghost use Rattle.frs_types.specs.Lawful.{Held};
 ghost use Rattle.frs_types.specs.Records.{has_words};
 ghost use Rattle.frs_types.specs.Survivors.{entry_by};
 ghost use Rattle.frs_frame.specs.Spelling.{spelling};
-ghost use Rattle.frs_disk.specs.Disk.{Image, Passes, Within};
+ghost use Rattle.frs_disk.specs.Disk.{Image, Passes, Within, LeftNoFile};
 ghost use Rattle.frs_history.specs.declared.command.Command.TheVariants as command;
 ghost use Rattle.frs_history.specs.declared.event.Reply.TheVariants as reply;
 ghost use Rattle.frs_history.specs.Machine.{value_or_none};
 ghost use Rattle.frs_engine.specs.Entries.{table};
-ghost use Rattle.frs_engine.specs.Journal.{LeftNoFile, CallHasCause};
+ghost use Rattle.frs_engine.specs.Journal.{CallHasCause};
 ghost use Rattle.frs_engine.specs.Promise.{has_puts_and_gets, commits_of_run, Tells, Survives, Shows, ShowsAcked, ShowsAll, Completes};
 ghost use Rattle.frs_engine.specs.Session.{drawn, drawn_put, answer, IsAnswered, IsReady, HasOneMark, HasRoom, IsToldAlike, IsFresh, commits_so_far, Extends, StopHasCause};
 

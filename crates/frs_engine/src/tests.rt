@@ -416,19 +416,34 @@ fn read_chunks(read: Read, bytes: &[u8], len: usize) -> Option<Read> {
     None
 }
 
-// The open files are segments that follow each other from LSN 1 on, and their puts are the first ones of the script.
+// The open file with this number is the segment that comes next.
+fn has_header(read: Read, number: u64, bytes: &[u8]) -> Option<bool> {
+    Some(
+        bytes.get(1..6)? == &SEGMENT[1..6]
+            && number_at(bytes, 6, 8)? == number
+            && number_at(bytes, 14, 8)? == read.next,
+    )
+}
+
+// The open files are segments that follow each other from LSN 1 on, and their puts are the first ones of the script. The
+// files have the numbers from 1 on, and each but the newest is such a segment and has a record.
 fn read_files(files: &[(u64, Vec<u8>)], len: usize) -> Option<Read> {
     let mut read = Read { next: 1, puts: 0 };
+    let mut expected = 1u64;
+    let mut newest = false;
     for (number, bytes) in files {
+        if newest || *number != expected {
+            return None;
+        }
+        let before = read.next;
         if bytes.len() >= 23 && bytes[0] == 1 {
-            if bytes[1..6] != SEGMENT[1..6]
-                || number_at(bytes, 6, 8)? != *number
-                || number_at(bytes, 14, 8)? != read.next
-            {
+            if !has_header(read, *number, bytes)? {
                 return None;
             }
             read = read_chunks(read, bytes, len)?;
         }
+        newest = read.next == before;
+        expected = expected.checked_add(1)?;
     }
     Some(read)
 }
@@ -467,6 +482,7 @@ fn a_log_over_two_segments_keeps_what_was_acknowledged(rt: HostRuntime) -> Resul
     assert_eq!(rt; whole.status, 0);
     assert_eq!(rt; whole.disk.files().len(), 2);
     assert!(rt; read_files(whole.disk.files(), 65_535) == Some(Read { next: 20, puts: 17 }));
+    assert!(rt; keeps_acknowledged(&whole, 65_535)?);
     let calls = whole.disk.record().len() as u64;
     for calls in 0..calls {
         let stop = FaultPlan {

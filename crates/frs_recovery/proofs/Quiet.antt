@@ -1,12 +1,9 @@
 -- Calls on a disk that change nothing, one after another.
-use Rattle.std.proofs.Common.{inl, ℕ, arith}
+use Rattle.std.proofs.Common.{ℕ}
 use Rattle.frs_disk.specs.Disk.{Image, Passes, Within, Keeps}
 use Rattle.frs_disk.proofs.Moments.{within_join}
 
 module _ {D : Type 0} (moment : D → ℕ) (left_since : D → ℕ → Image → Type 0) where
-  pub no_time : (disk : D) → Passes moment left_since disk disk
-  no_time disk = record { later = omega arith; splits = λ t c le left. inl left; keeps = λ t c le left. left }
-
   -- what was left during both is what may have been left before them
   pub both_within : (may_leave : D → Image → Type 0) (old mid new : D) → Passes moment left_since old mid → Passes moment left_since mid new → Keeps (may_leave old) (may_leave mid)
       → Within moment left_since old mid (may_leave old) → Within moment left_since mid new (may_leave mid) → Within moment left_since old new (may_leave old)

@@ -1,29 +1,33 @@
 -- What holds of a writer that was just opened on the files that were found.
 use Rattle.std.proofs.Common.{◌≡◌, ◌≢◌, ◌⊎◌, ⊎_elim, ℕ, ◌+◌, ◌-◌, ◌^◌, ◌<◌, ◌≤◌, Bool, List, [], ◌∷◌, ◌++◌, length, take, map, replicate, Some, None, IsSome, refl, sym, ◌∙◌, ap, subst, arith, IsTrue}
-use Rattle.std.specs.Prelude.{Contains}
+use Rattle.std.specs.Prelude.{Contains, unwrap_or}
+use Rattle.std.specs.List.{last_or}
 use Rattle.std.proofs.lemmas.List.{append-nil, map-append, take_all, length-replicate}
 use Rattle.std.proofs.lemmas.List.Elements.{All-contains, All-replicate}
 use Rattle.std.specs.FinMap.{entries, get}
 use Rattle.frs_types.specs.declared.record.Record.{Record}
 use Rattle.frs_types.specs.Records.{Log, next_lsn, named_lowest}
 use Rattle.frs_disk.specs.declared.disk.Fault.TheVariants.{Failed}
-use Rattle.frs_disk.specs.Disk.{Image, IsSynced, Within, NoneRemovedAbove}
+use Rattle.frs_disk.specs.Disk.{Image, IsSynced, Within, NoneRemovedAbove, LeftNoFile}
+use Rattle.frs_disk.proofs.NoFiles.{no_entries}
 use Rattle.frs_frame.specs.Spelling.{spelling}
 use Rattle.frs_segment.specs.Front.{empty_segment}
 use Rattle.frs_segment.specs.declared.layout.Found.{Found}
 use Rattle.frs_segment.specs.declared.layout.Segment.{Segment as Described}
 use Rattle.frs_segment.specs.Segments.{Image as Files, Segment, Spells}
 use Rattle.frs_segment.specs.Scanning.{described}
-use Rattle.frs_segment.specs.Stores.{IsFound}
+use Rattle.frs_segment.specs.Stores.{IsFound, numbers_of}
 use Rattle.frs_slots.specs.Views.{TakerView, next_taken}
 use Rattle.frs_writer.specs.Holds.{IsCounted, IsAtWork, Holds, IsKept}
 use Rattle.frs_writer.specs.Opening.{IsOpening}
 use Rattle.frs_writer.specs.Shown.{Shows, Rests, new_segment}
 use Rattle.frs_writer.specs.Writer.{WriterView, IsLog, WasEmpty, IsWellOpened}
+use Rattle.frs_writer.specs.Writing.{HoldsLog}
 use Rattle.frs_writer.proofs.Found.{found_above, found_none_removed, found_half, found_next}
 use Rattle.frs_writer.proofs.Opened.{opening_shows, opening_rests, opening_spells}
 use Rattle.frs_writer.proofs.Rolled.{empty_gate}
-use Rattle.frs_writer.proofs.Showing.{base_lowest, shows_as, rests_as}
+use Rattle.frs_writer.proofs.Showing.{base_lowest, shows_as, rests_as, rests_shows, rests_open}
+use Rattle.frs_writer.proofs.Whole.{shows_whole, shows_open}
 
 pub none_failed : None ≡ Some Failed → ⊥
 none_failed is = cc
@@ -57,7 +61,7 @@ base_is base log rs none is =
     is ∙ ap (λ (x : List Record). record base { records = base.records ++ x }) none ∙ ap (λ (x : List Record). record base { records = x }) (append-nil base.records)
 
 module _ {D : Type 0} (tells : D → Bool) (reads : D → Image) (may_leave : D → Image → Type 0) (removing : D → ℕ → Type 0) (moment : D → ℕ) (left_since : D → ℕ → Image → Type 0)
-    (counts_now : (disk : D) (t : ℕ) (c : Image) → t ≤ moment disk → may_leave disk c → left_since disk t c)
+    (as_read : (disk : D) → IsTrue (tells disk) → may_leave disk (reads disk)) (counts_now : (disk : D) (t : ℕ) (c : Image) → t ≤ moment disk → may_leave disk c → left_since disk t c)
     (stays_absent : (disk : D) (number : ℕ) (c : Image) → IsTrue (tells disk) → get (reads disk) number ≡ None → (removing disk number → ⊥) → may_leave disk c → get c number ≡ None)
     (one_log : (files : Files) (log other : Log) → Spells files log → Spells files other → log ≡ other)
     (old new : D) (found : Found) (found_is : IsTrue (tells old) → (segments : List Segment) × (log : Log) × IsFound (entries (reads old)) segments log found)
@@ -101,20 +105,37 @@ module _ {D : Type 0} (tells : D → Bool) (reads : D → Image) (may_leave : D 
     opening c left = subst (λ (l : List ℕ). IsOpening l number first (may_leave old) c) half_is (images told c left)
 
     module _ (well : IsWellOpened reads may_leave old) (c : Image) (left : left_since new (moment old) c) where
+      -- the first file has the number 1
+      at_one : LeftNoFile may_leave old → number ≡ 1
+      at_one none =
+          let greatest_none : found.greatest ≡ 0 = is.greatest_is ∙ ap (λ (l : Files). unwrap_or (last_or None (numbers_of l)) 0) (no_entries (reads old) (none (reads old) (as_read old told))) in
+          omega (arith, greatest_none)
+
+      none_before : LeftNoFile may_leave old → (d : Image) → may_leave old d → entries d ≡ []
+      none_before none d was = no_entries d (none d was)
+
       begun_spells : Spells (entries c) base
-      begun_spells = opening_spells (reads old) segments base found is (may_leave old) well number first next (omega arith) within low high none_there c (opening c left)
+      begun_spells = opening_spells (reads old) segments base found is (may_leave old) well number first next (omega arith) within low high none_there c (opening c left) (LeftNoFile may_leave old) none_before at_one
 
-      begun_shows : Shows (WasEmpty reads old) (entries c) base.first base.records
-      begun_shows = shows_as empty_then none_when (opening_shows (reads old) segments base found is (may_leave old) well number first next (omega arith) within low high none_there c (opening c left))
+      begun_shows : Shows (WasEmpty reads old) (LeftNoFile may_leave old) (entries c) base.first base.records
+      begun_shows = shows_as empty_then none_when (opening_shows (reads old) segments base found is (may_leave old) well number first next (omega arith) within low high none_there c (opening c left) (LeftNoFile may_leave old) none_before at_one)
 
-      begun_rests : get c number ≡ Some (empty_segment number first) → Rests (WasEmpty reads old) (entries c) base.first base.records (new_segment number first)
-      begun_rests made = rests_as empty_then none_when (opening_rests (reads old) segments base found is (may_leave old) well number first next (omega arith) within low high none_there c (opening c left) made)
+      begun_rests : get c number ≡ Some (empty_segment number first) → Rests (WasEmpty reads old) (LeftNoFile may_leave old) (entries c) base.first base.records (new_segment number first)
+      begun_rests made = rests_as empty_then none_when (opening_rests (reads old) segments base found is (may_leave old) well number first next (omega arith) within low high none_there c (opening c left) (LeftNoFile may_leave old) none_before at_one made)
 
   -- each image spells what was read at the start
   pub images_spell : IsTrue (tells old) → IsWellOpened reads may_leave old → (log : Log) → Spells (entries (reads old)) log → Within moment left_since old new (λ c. Spells (entries c) log)
   images_spell told well log spelled c left =
       let (segments, base, is) = found_is told in
       subst (Spells (entries c)) (sym (found_log told segments base is log spelled)) (begun_spells told segments base is well c left)
+
+  -- where that was nothing, it has no record
+  pub images_whole : IsTrue (tells old) → IsWellOpened reads may_leave old → WasEmpty reads old → Within moment left_since old new (λ c. HoldsLog (LeftNoFile may_leave old) 1 (entries c) [])
+  images_whole told well was c left =
+      let (segments, base, is) = found_is told in
+      let none : Log = record { first = 1; records = [] } in
+      shows_whole (entries c) 1 []
+      (subst (λ (l : Log). Shows (WasEmpty reads old) (LeftNoFile may_leave old) (entries c) l.first l.records) (sym (found_log told segments base is none was)) (begun_shows told segments base is well c left)) was
 
   -- ---- the writer
 
@@ -186,11 +207,11 @@ module _ {D : Type 0} (tells : D → Bool) (reads : D → Image) (may_leave : D 
           first - 1,
           omega arith,
           omega (arith, low, ends_at),
-          subst (Shows (WasEmpty reads old) (entries c) base.first) (sym all_durable) (begun_shows told segments base is well c (since c left)),
+          subst (Shows (WasEmpty reads old) (LeftNoFile may_leave old) (entries c) base.first) (sym all_durable) (begun_shows told segments base is well c (since c left)),
         );
         newest = λ fine. (
           new_segment number first,
-          (λ c left. subst (λ (rs : List Record). Rests (WasEmpty reads old) (entries c) base.first rs (new_segment number first)) (sym all_durable)
+          (λ c left. subst (λ (rs : List Record). Rests (WasEmpty reads old) (LeftNoFile may_leave old) (entries c) base.first rs (new_segment number first)) (sym all_durable)
               (begun_rests told segments base is well c (since c left) (durable c left ∙ made told))),
           (segments, ap (λ (l : List Described). l ++ next_segment ∷ []) is.segments_are ∙ sym (map-append described segments (new_segment number first ∷ []))),
         );
@@ -199,6 +220,16 @@ module _ {D : Type 0} (tells : D → Bool) (reads : D → Image) (may_leave : D 
       log_is : (log : Log) → IsLog reads begun log → log ≡ base
       log_is log l =
           base_is l.base log l.taken (none_taken taker.taken l.taken begins.0 l.bytes) l.is ∙ found_log told segments base is l.base l.spelled
+
+    -- and afterwards, where that was nothing
+    pub durable_none : IsTrue (tells old) → IsWellOpened reads may_leave old → WasEmpty reads old → (c : Image) → may_leave new c → HoldsLog (LeftNoFile may_leave old) 0 (entries c) []
+    durable_none told well was c left =
+        let (segments, base, is) = found_is told in
+        let none : Log = record { first = 1; records = [] } in
+        let rests : Rests (WasEmpty reads old) (LeftNoFile may_leave old) (entries c) 1 [] (new_segment number first) =
+        subst (λ (l : Log). Rests (WasEmpty reads old) (LeftNoFile may_leave old) (entries c) l.first l.records (new_segment number first)) (sym (found_log told segments base is none was))
+        (begun_rests told segments base is well c (since told well segments base is c left) (durable c left ∙ made told)) in
+        shows_open (entries c) 1 [] (rests_shows rests) was (rests_open rests)
 
     begun_kept : IsKept tells reads may_leave removing begun
     unfolding begun_counted

@@ -5,7 +5,7 @@ use Rattle.std.proofs.lemmas.List.{map-append}
 use Rattle.std.specs.FinMap.{entries, get}
 use Rattle.frs_types.specs.declared.record.Record.{Record}
 use Rattle.frs_types.specs.Records.{Log, Placed, next_lsn}
-use Rattle.frs_disk.specs.Disk.{Image, AgreesElsewhere, IsSynced, Within, bytes_at}
+use Rattle.frs_disk.specs.Disk.{Image, AgreesElsewhere, IsSynced, Within, bytes_at, LeftNoFile}
 use Rattle.frs_segment.specs.declared.layout.Segment.{Segment as Described}
 use Rattle.frs_segment.specs.Segments.{Segment, segment_spelling, body, is_chunk, end_of}
 use Rattle.frs_segment.specs.Scanning.{described}
@@ -29,7 +29,7 @@ module _ {D : Type 0} (tells : D → Bool) (reads : D → Image) (may_leave : D 
     pub g : Grouping reads w w' group log'
     pub next : next_lsn g.log ≡ next_taken w.taker
     pub last : Segment
-    pub rest : (c : Image) → may_leave w.disk c → Rests (WasEmpty reads w.opened) (entries c) log'.first g.front last
+    pub rest : (c : Image) → may_leave w.disk c → Rests (WasEmpty reads w.opened) (LeftNoFile may_leave w.opened) (entries c) log'.first g.front last
     pub newest : counted.newest ≡ described last
     pub before : List Segment
     pub segments : w.segments ≡ map described (before ++ last ∷ [])
@@ -47,9 +47,9 @@ module _ {D : Type 0} (tells : D → Bool) (reads : D → Image) (may_leave : D 
         next = held.next_is;
         last = last;
         rest = λ c left.
-            let r : Rests (WasEmpty reads w.opened) (entries c) g.log.first (durable_of w g.log).records last = rest c left in
-            subst (λ (n : ℕ). Rests (WasEmpty reads w.opened) (entries c) n g.front last) (sym (first_is reads w w' group log' g placed))
-            (subst (λ (l : List Record). Rests (WasEmpty reads w.opened) (entries c) g.log.first l last) (durable_is reads w w' group log' g placed held.next_is) r);
+            let r : Rests (WasEmpty reads w.opened) (LeftNoFile may_leave w.opened) (entries c) g.log.first (durable_of w g.log).records last = rest c left in
+            subst (λ (n : ℕ). Rests (WasEmpty reads w.opened) (LeftNoFile may_leave w.opened) (entries c) n g.front last) (sym (first_is reads w w' group log' g placed))
+            (subst (λ (l : List Record). Rests (WasEmpty reads w.opened) (LeftNoFile may_leave w.opened) (entries c) g.log.first l last) (durable_is reads w w' group log' g placed held.next_is) r);
         newest = newest_is w kept.counted before last segments;
         before = before;
         segments = segments;
@@ -57,21 +57,21 @@ module _ {D : Type 0} (tells : D → Bool) (reads : D → Image) (may_leave : D 
 
   module _ (w w' : WriterView D) (counted : IsCounted w) (group : List (List ℕ)) (log' : Log) (placed : Placed log') (b : Behind w w' counted group log') where
     -- an image that shows what was durable
-    pub shows_durable : (c : Image) → Shows (WasEmpty reads w.opened) (entries c) log'.first b.g.front → ShowsFrom (WasEmpty reads w.opened) w.synced log' (entries c)
+    pub shows_durable : (c : Image) → Shows (WasEmpty reads w.opened) (LeftNoFile may_leave w.opened) (entries c) log'.first b.g.front → ShowsFrom (WasEmpty reads w.opened) (LeftNoFile may_leave w.opened) w.synced log' (entries c)
     shows_durable c shows = (
       w.synced,
       omega arith,
       omega (arith, group_within reads w w' group log' b.g placed b.next),
-      subst (λ (l : List Record). Shows (WasEmpty reads w.opened) (entries c) log'.first l) (sym (behind_is reads w w' group log' b.g placed b.next)) shows,
+      subst (λ (l : List Record). Shows (WasEmpty reads w.opened) (LeftNoFile may_leave w.opened) (entries c) log'.first l) (sym (behind_is reads w w' group log' b.g placed b.next)) shows,
     )
 
     -- and one that shows the group too
-    pub shows_grown : (c : Image) → Shows (WasEmpty reads w.opened) (entries c) log'.first (b.g.front ++ b.g.rs) → ShowsFrom (WasEmpty reads w.opened) (w.synced + length group) log' (entries c)
+    pub shows_grown : (c : Image) → Shows (WasEmpty reads w.opened) (LeftNoFile may_leave w.opened) (entries c) log'.first (b.g.front ++ b.g.rs) → ShowsFrom (WasEmpty reads w.opened) (LeftNoFile may_leave w.opened) (w.synced + length group) log' (entries c)
     shows_grown c shows = (
       w.synced + length group,
       omega arith,
       group_within reads w w' group log' b.g placed b.next,
-      subst (λ (l : List Record). Shows (WasEmpty reads w.opened) (entries c) log'.first l) (sym (grown_is reads w w' group log' b.g placed b.next)) shows,
+      subst (λ (l : List Record). Shows (WasEmpty reads w.opened) (LeftNoFile may_leave w.opened) (entries c) log'.first l) (sym (grown_is reads w w' group log' b.g placed b.next)) shows,
     )
 
     pub number_is : counted.newest.number ≡ b.last.number
@@ -93,7 +93,7 @@ module _ {D : Type 0} (tells : D → Bool) (reads : D → Image) (may_leave : D 
       -- the file with the whole chunk
       pub whole_rests : (c : Image) → AgreesElsewhere b.last.number (may_leave w.disk) c
           → get c b.last.number ≡ Some (segment_spelling b.last ++ 1 ∷ sealed (w.synced + 1) (length group) (joined group))
-          → Rests (WasEmpty reads w.opened) (entries c) log'.first (b.g.front ++ b.g.rs) (with_chunk b.last b.g.rs)
+          → Rests (WasEmpty reads w.opened) (LeftNoFile may_leave w.opened) (entries c) log'.first (b.g.front ++ b.g.rs) (with_chunk b.last b.g.rs)
       whole_rests c agrees file =
           let (e, was, same) = agrees in
           let chunk = group_chunk reads w w' group log' b.g placed b.next some few fits in
@@ -106,7 +106,7 @@ module _ {D : Type 0} (tells : D → Bool) (reads : D → Image) (may_leave : D 
       pub group_images : IsTrue (tells w.disk) → (d : D) → Within moment left_since w.disk d (AgreesElsewhere counted.newest.number (may_leave w.disk))
           → Within moment left_since w.disk d (λ c. IsShut (take (counted.newest.length - 1) (bytes_at (reads w.disk) counted.newest.number)) (get c counted.newest.number)
           ⊎ (get c counted.newest.number ≡ Some (take (counted.newest.length - 1) (bytes_at (reads w.disk) counted.newest.number) ++ 1 ∷ sealed (w.synced + 1) (length group) (joined group))))
-          → Within moment left_since w.disk d (λ c. ShowsFrom (WasEmpty reads w.opened) w.synced log' (entries c))
+          → Within moment left_since w.disk d (λ c. ShowsFrom (WasEmpty reads w.opened) (LeftNoFile may_leave w.opened) w.synced log' (entries c))
       group_images told d elsewhere images c left =
           let agrees : AgreesElsewhere b.last.number (may_leave w.disk) c = subst (λ (n : ℕ). AgreesElsewhere n (may_leave w.disk) c) number_is (elsewhere c left) in
           ⊎_elim
@@ -126,7 +126,7 @@ module _ {D : Type 0} (tells : D → Bool) (reads : D → Image) (may_leave : D 
       pub group_rests : IsTrue (tells w.disk) → (d : D) → ((c : Image) → may_leave d c → left_since d (moment w.disk) c)
           → Within moment left_since w.disk d (AgreesElsewhere counted.newest.number (may_leave w.disk)) → IsSynced reads may_leave d counted.newest.number
           → get (reads d) counted.newest.number ≡ Some (take (counted.newest.length - 1) (bytes_at (reads w.disk) counted.newest.number) ++ 1 ∷ sealed (w.synced + 1) (length group) (joined group))
-          → (c : Image) → may_leave d c → Rests (WasEmpty reads w.opened) (entries c) log'.first (b.g.front ++ b.g.rs) (with_chunk b.last b.g.rs)
+          → (c : Image) → may_leave d c → Rests (WasEmpty reads w.opened) (LeftNoFile may_leave w.opened) (entries c) log'.first (b.g.front ++ b.g.rs) (with_chunk b.last b.g.rs)
       group_rests told d counts elsewhere durable written c left =
           let agrees : AgreesElsewhere b.last.number (may_leave w.disk) c = subst (λ (n : ℕ). AgreesElsewhere n (may_leave w.disk) c) number_is (elsewhere c (counts c left)) in
           let whole : get c counted.newest.number ≡ Some (take (counted.newest.length - 1) (bytes_at (reads w.disk) counted.newest.number) ++ 1 ∷ sealed (w.synced + 1) (length group) (joined group)) = durable c left ∙ written in

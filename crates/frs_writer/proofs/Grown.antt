@@ -6,7 +6,7 @@ use Rattle.std.proofs.lemmas.List.{take_at}
 use Rattle.std.specs.FinMap.{entries, get}
 use Rattle.frs_types.specs.Records.{Log, Placed, next_lsn}
 use Rattle.frs_disk.specs.declared.disk.Fault.{Fault}
-use Rattle.frs_disk.specs.Disk.{Image, AgreesElsewhere, SameElsewhere, IsSynced, Within, bytes_at}
+use Rattle.frs_disk.specs.Disk.{Image, AgreesElsewhere, SameElsewhere, IsSynced, Within, bytes_at, LeftNoFile}
 use Rattle.frs_segment.specs.declared.layout.Segment.{Segment as Described}
 use Rattle.frs_slots.specs.Views.{TakerView, next_taken}
 use Rattle.frs_writer.specs.Appending.{IsShut, IsAtGate, head_of, sealed}
@@ -167,7 +167,7 @@ module _ {D : Type 0} (tells : D → Bool) (reads : D → Image) (may_leave : D 
     told_before told = subst IsTrue told_same told
 
     pub images_shown : (w' : WriterView D) → w'.opened ≡ w.opened → w'.taker ≡ t → IsTrue (tells w.disk) → IsWellOpened reads may_leave w.opened → (log' : Log) → IsLog reads w' log' → Placed log'
-        → Within moment left_since w.disk d (λ c. ShowsFrom (WasEmpty reads w.opened) w.synced log' (entries c))
+        → Within moment left_since w.disk d (λ c. ShowsFrom (WasEmpty reads w.opened) (LeftNoFile may_leave w.opened) w.synced log' (entries c))
     images_shown w' same taker told well log' is_log placed =
         let b = behind tells reads may_leave removing moment left_since as_read w w' kept group g.taken still log' fine told well same (ap (λ (v : TakerView). v.taken) taker ∙ g.taken_are) g.group_is is_log placed in
         group_images tells reads may_leave removing moment left_since as_read w w' kept.counted group log' placed b some few g.fits (omega (arith, log_within w' log' placed taker b, bound)) told d elsewhere (images told)
@@ -197,11 +197,11 @@ module _ {D : Type 0} (tells : D → Bool) (reads : D → Image) (may_leave : D 
 
       pub grown_rests : IsTrue (tells w.disk) → IsWellOpened reads may_leave w.opened → (log' : Log) → IsLog reads grown_view log' → (placed : Placed log')
           → (b : Behind tells reads may_leave removing moment left_since as_read w grown_view kept.counted group log')
-          × ((c : Image) → may_leave d c → Rests (WasEmpty reads w.opened) (entries c) log'.first (durable_of grown_view log').records (with_chunk b.last b.g.rs))
+          × ((c : Image) → may_leave d c → Rests (WasEmpty reads w.opened) (LeftNoFile may_leave w.opened) (entries c) log'.first (durable_of grown_view log').records (with_chunk b.last b.g.rs))
       grown_rests told well log' is_log placed =
           let b = behind tells reads may_leave removing moment left_since as_read w grown_view kept group g.taken still log' fine told well refl g.taken_are g.group_is is_log placed in (
             b,
-            λ c left. subst (λ (l : _). Rests (WasEmpty reads w.opened) (entries c) log'.first l (with_chunk b.last b.g.rs)) (sym (grown_is reads w grown_view group log' b.g placed b.next))
+            λ c left. subst (λ (l : _). Rests (WasEmpty reads w.opened) (LeftNoFile may_leave w.opened) (entries c) log'.first l (with_chunk b.last b.g.rs)) (sym (grown_is reads w grown_view group log' b.g placed b.next))
                 (group_rests tells reads may_leave removing moment left_since as_read w grown_view kept.counted group log' placed b some few g.fits (omega (arith, log_within grown_view log' placed refl b, bound))
                 told d (λ x now. counts_now d (moment w.disk) x later now) elsewhere durable (written told) c left),
           )
@@ -217,7 +217,7 @@ module _ {D : Type 0} (tells : D → Bool) (reads : D → Image) (may_leave : D 
             record {
               next_is = log_within grown_view log' placed refl b;
               each = λ c left. shows_grown tells reads may_leave removing moment left_since as_read w grown_view kept.counted group log' placed b c
-                  (subst (λ (l : _). Shows (WasEmpty reads w.opened) (entries c) log'.first l) (grown_is reads w grown_view group log' b.g placed b.next) (rests_shows (rests c left)));
+                  (subst (λ (l : _). Shows (WasEmpty reads w.opened) (LeftNoFile may_leave w.opened) (entries c) log'.first l) (grown_is reads w grown_view group log' b.g placed b.next) (rests_shows (rests c left)));
               newest = λ none. (with_chunk b.last b.g.rs, rests, (b.before, segments_grown tells reads may_leave removing moment left_since as_read w grown_view kept.counted group log' placed b some few g.fits (omega (arith, log_within grown_view log' placed refl b, bound))));
             };
       }

@@ -127,13 +127,13 @@ newest_is w counted before last is = (same_newest counted.older (map described b
 module _ {D : Type 0} (tells : D → Bool) (reads : D → Image) (may_leave : D → Image → Type 0) (removing : D → ℕ → Type 0)
     (as_read : (disk : D) → IsTrue (tells disk) → may_leave disk (reads disk)) where
   -- the newest file as it is read
-  pub file_read : {alone : Type 0} (disk : D) (told : IsTrue (tells disk)) (first : ℕ) (records : List Record) (last : Segment) → ((c : Image) → may_leave disk c → Rests alone (entries c) first records last)
+  pub file_read : {alone fresh : Type 0} (disk : D) (told : IsTrue (tells disk)) (first : ℕ) (records : List Record) (last : Segment) → ((c : Image) → may_leave disk c → Rests alone fresh (entries c) first records last)
       → get (reads disk) last.number ≡ Some (segment_spelling last ++ 0 ∷ [])
   file_read disk told first records last rest =
       let r = rest (reads disk) (as_read disk told) in
       last_get (reads disk) r.front last.number (segment_spelling last ++ 0 ∷ []) r.files
 
-  pub front_read : {alone : Type 0} (disk : D) (told : IsTrue (tells disk)) (first : ℕ) (records : List Record) (last : Segment) → ((c : Image) → may_leave disk c → Rests alone (entries c) first records last)
+  pub front_read : {alone fresh : Type 0} (disk : D) (told : IsTrue (tells disk)) (first : ℕ) (records : List Record) (last : Segment) → ((c : Image) → may_leave disk c → Rests alone fresh (entries c) first records last)
       → take (length (segment_spelling last)) (bytes_at (reads disk) last.number) ≡ segment_spelling last
   front_read disk told first records last rest =
       ap (λ (o : Option (List ℕ)). take (length (segment_spelling last)) (unwrap_or o [])) (file_read disk told first records last rest)

@@ -11,6 +11,7 @@ mod Keeping
 mod Logs
 mod Next
 mod Opened
+mod Order
 mod Placing
 mod Rolled
 mod Segments

@@ -18,9 +18,10 @@ use Rattle.frs_segment.specs.Segments.{File, Segment, IsSegment, SpellsBy, Spell
 use Rattle.frs_segment.specs.Segments.{Image as Files}
 use Rattle.frs_segment.specs.Stores.{IsFound, SpellsAlike, is_below, numbers_of}
 use Rattle.frs_writer.specs.Opening.{Thinned, IsOpening}
-use Rattle.frs_writer.specs.Shown.{Shows, Rests, new_segment}
+use Rattle.frs_writer.specs.Shown.{Shows, Rests, TakesNext, new_segment}
 use Rattle.frs_writer.proofs.Images.{rising}
-use Rattle.frs_writer.proofs.Showing.{base_shows, spells}
+use Rattle.frs_writer.proofs.Order.{none_order, none_looked}
+use Rattle.frs_writer.proofs.Showing.{base_shows, spells, shows_takes}
 use Rattle.frs_writer.proofs.Steps.{one_next, one_making}
 use Rattle.frs_writer.proofs.Thinning.{thin_absent}
 use Rattle.frs_writer.proofs.Files.{sorted_kept, filter_whole, filter_swap, lower_before, there_behind, all_there, all_numbers_there, by_numbers, Kept, kept_there}
@@ -72,8 +73,8 @@ fewer p (f ∷ files) (s ∷ segments) each bare = by (fewer p files segments ea
     by rest false = rest
 
 -- without a record, some of the open files show as much
-bare_shows : {alone : Type 0} (old new : Files) (p : File → Bool) (first : ℕ) (records : List Record) → Shows alone old first records → records ≡ [] → open_files new ≡ filter p (open_files old) → IsTrue (is_sorted nat_cmp new) → Shows alone new first records
-bare_shows old new p first records s none is sorted =
+bare_shows : {alone fresh : Type 0} (old new : Files) (p : File → Bool) (first : ℕ) (records : List Record) → Shows alone fresh old first records → (fresh → new ≡ []) → records ≡ [] → open_files new ≡ filter p (open_files old) → IsTrue (is_sorted nat_cmp new) → Shows alone fresh new first records
+bare_shows old new p first records s empty none is sorted =
     let whole = s.alone_is (s.whole none) in
     let one : first_of s.segments ≡ 1 = omega (arith, s.begins, whole.2, ap length whole.1) in
     let nothing : all_records s.segments ≡ [] = s.shown ∙ ap (λ (x : List Record). x ++ records) whole.1 ∙ none in
@@ -93,6 +94,8 @@ bare_shows old new p first records s none is sorted =
       shown = bare_records few.segments few.bare ∙ sym none;
       alone_is = λ is. (refl, refl, whole.2);
       whole = λ same. s.whole none;
+      fresh_is = λ fresh. none_order (first + length records) new few.segments (empty fresh)
+          (none_looked new [] (open_files new) few.segments (empty fresh) refl (subst (λ (files : List File). AllZip IsSegment files few.segments) (sym (is ∙ sym (ap (filter p) looked))) few.each));
     }
 
 -- the same open files spell the same
@@ -143,7 +146,8 @@ stays (Some b) y Gone (inr gone) = absurd (some_none gone.1)
     some_none : Some b ≡ None → ⊥
     some_none e = cc
 
-module _ (a d e : Image) (segments : List Segment) (log : Log) (found : Found) (is : IsFound (entries a) segments log found) (thin : Thinned found.half d e) where
+module _ (a d e : Image) (segments : List Segment) (log : Log) (found : Found) (is : IsFound (entries a) segments log found) (thin : Thinned found.half d e)
+    (fresh : Type 0) (blank : fresh → entries d ≡ []) where
   abbrev still : File → Bool
   still f = is_some (get e f.0)
 
@@ -156,6 +160,9 @@ module _ (a d e : Image) (segments : List Segment) (log : Log) (found : Found) (
 
   stay_open : open_files (entries e) ≡ filter still (open_files (entries d))
   stay_open = ap open_files stay ∙ filter_swap still is_open (entries d)
+
+  none_then : fresh → entries e ≡ []
+  none_then is = stay ∙ ap (filter still) (blank is)
 
   -- a half-made file among those found
   half_there : (q : ℕ) → Contains found.half q → Kept (is_half segments) (entries a) q
@@ -224,18 +231,18 @@ module _ (a d e : Image) (segments : List Segment) (log : Log) (found : Found) (
         one : (f : File) → (Contains found.half f.0 → ⊥) → IsSome (find nat_cmp f.0 (entries d)) → still f ≡ true
         one f other there = ⊎_elim (λ was. ap is_some (was ∙ get-entries d f.0) ∙ there) (λ gone. absurd (other gone.0)) (thin f.0)
 
-    some_shows : Shows (log.records ≡ []) (entries e) log.first log.records
-    some_shows = base_shows (entries e) others log (spelled_alike (entries d) (entries e) others log by open_stay (rising e))
+    some_shows : Shows (log.records ≡ []) fresh (entries e) log.first log.records
+    some_shows = base_shows (entries e) others log none_then (spelled_alike (entries d) (entries e) others log by open_stay (rising e))
 
   -- once some of the half-made files are gone
-  pub thin_shows : SpellsAlike (entries a) (entries d) → Shows (log.records ≡ []) (entries e) log.first log.records
+  pub thin_shows : SpellsAlike (entries a) (entries d) → Shows (log.records ≡ []) fresh (entries e) log.first log.records
   thin_shows alike = at log.records refl (alike log segments is.spelled)
     where
       some_not : (r : Record) (rs : List Record) → r ∷ rs ≡ [] → ⊥
       some_not r rs none = cc
 
-      at : (records : List Record) → log.records ≡ records → ((others : List Segment) × SpellsBy (entries d) others log × ((log.records ≡ []) ⊎ (places others ≡ places segments))) → Shows (log.records ≡ []) (entries e) log.first log.records
-      at [] none told = bare_shows (entries d) (entries e) still log.first log.records (base_shows (entries d) told.0 log told.1) none stay_open (rising e)
+      at : (records : List Record) → log.records ≡ records → ((others : List Segment) × SpellsBy (entries d) others log × ((log.records ≡ []) ⊎ (places others ≡ places segments))) → Shows (log.records ≡ []) fresh (entries e) log.first log.records
+      at [] none told = bare_shows (entries d) (entries e) still log.first log.records (base_shows (entries d) told.0 log blank told.1) none_then none stay_open (rising e)
       at (r ∷ rs) some told = ⊎_elim (λ none. absurd (some_not r rs (sym some ∙ none))) (λ same. some_shows told.0 told.1 same (λ none. some_not r rs (sym some ∙ none))) told.2
 
 -- ---- the opening
@@ -250,21 +257,24 @@ whole_log log lowest =
 
 module _ (a : Image) (segments : List Segment) (log : Log) (found : Found) (is : IsFound (entries a) segments log found) (outcomes : Image → Type 0) (alike : (d : Image) → outcomes d → SpellsAlike (entries a) (entries d))
     (number first : ℕ) (next : first ≡ found.next) (low : 1 ≤ number) (high : number < 2 ^ 62) (least_first : 1 ≤ first) (most : first < 2 ^ 62)
-    (none : (d : Image) → outcomes d → (q : ℕ) → number ≤ q → get d q ≡ None) (c : Image) (opening : IsOpening found.half number first outcomes c) where
+    (none : (d : Image) → outcomes d → (q : ℕ) → number ≤ q → get d q ≡ None) (c : Image) (opening : IsOpening found.half number first outcomes c) (fresh : Type 0) (blank : fresh → (d : Image) → outcomes d → entries d ≡ []) (at_one : fresh → number ≡ 1) where
   next_first : first ≡ log.first + length log.records
   next_first = next ∙ is.next_is
 
-  base : Shows (log.records ≡ []) (entries opening.thinned) log.first log.records
-  base = thin_shows a opening.base opening.thinned segments log found is opening.by (alike opening.base opening.was)
+  base : Shows (log.records ≡ []) fresh (entries opening.thinned) log.first log.records
+  base = thin_shows a opening.base opening.thinned segments log found is opening.by fresh (λ f. blank f opening.base opening.was) (alike opening.base opening.was)
 
   none_thinned : (q : ℕ) → number ≤ q → get opening.thinned q ≡ None
   none_thinned q le = thin_absent found.half opening.base opening.thinned opening.by q (none opening.base opening.was q le)
 
-  pub opening_shows : Shows (log.records ≡ []) (entries c) log.first log.records
-  opening_shows = one_making log.first log.records number first opening.thinned c base opening.elsewhere none_thinned next_first low high least_first most opening.making
+  takes : fresh → TakesNext number (log.first + length log.records) (entries opening.thinned) base.segments
+  takes f = shows_takes base number (none_then a opening.base opening.thinned segments log found is opening.by fresh (λ g. blank g opening.base opening.was) f) (at_one f)
 
-  pub opening_rests : get c number ≡ Some (empty_segment number first) → Rests (log.records ≡ []) (entries c) log.first log.records (new_segment number first)
-  opening_rests made = one_next log.first log.records number first opening.thinned c base opening.elsewhere none_thinned next_first low high least_first most made
+  pub opening_shows : Shows (log.records ≡ []) fresh (entries c) log.first log.records
+  opening_shows = one_making log.first log.records number first opening.thinned c base takes opening.elsewhere none_thinned next_first low high least_first most opening.making
+
+  pub opening_rests : get c number ≡ Some (empty_segment number first) → Rests (log.records ≡ []) fresh (entries c) log.first log.records (new_segment number first)
+  opening_rests made = one_next log.first log.records number first opening.thinned c base takes opening.elsewhere none_thinned next_first low high least_first most made
 
   pub opening_spells : Spells (entries c) log
   opening_spells =

@@ -1,13 +1,13 @@
 -- What holds of a writer that goes on to a new segment, and of one that found nothing to write.
-use Rattle.std.proofs.Common.{◌≡◌, inl, inr, ℕ, ◌+◌, ◌^◌, ◌<◌, ◌≤◌, Bool, List, [], ◌∷◌, ◌++◌, length, get_or, set, map, Option, Some, None, refl, sym, ◌∙◌, ap, subst, arith, IsTrue}
+use Rattle.std.proofs.Common.{◌≡◌, inl, inr, ℕ, ◌+◌, ◌^◌, ◌<◌, ◌≤◌, Bool, true, nat_le, nat_lt, List, [], ◌∷◌, ◌++◌, length, get_or, set, map, Option, Some, None, refl, sym, ◌∙◌, ap, subst, arith, IsTrue}
 use Rattle.std.specs.List.{All}
-use Rattle.std.proofs.lemmas.Bool.{cases_eq}
+use Rattle.std.proofs.lemmas.Bool.{and_parts, cases_eq, leb-true, ltb-true}
 use Rattle.std.proofs.lemmas.List.{map-append, get_or-set_same, get_or-set_other, length-set}
 use Rattle.std.specs.Prelude.{Result, Ok, Err, OnOk, OnErr}
 use Rattle.std.specs.FinMap.{entries, get}
 use Rattle.frs_types.specs.Records.{Log, Placed}
 use Rattle.frs_disk.specs.declared.disk.Fault.{Fault}
-use Rattle.frs_disk.specs.Disk.{Image, AgreesElsewhere, SameElsewhere, IsSynced, Within}
+use Rattle.frs_disk.specs.Disk.{Image, AgreesElsewhere, SameElsewhere, IsSynced, Within, LeftNoFile}
 use Rattle.frs_segment.specs.Front.{IsInTheMaking, empty_segment}
 use Rattle.frs_segment.specs.declared.layout.Segment.{Segment as Described}
 use Rattle.frs_segment.specs.Segments.{Segment}
@@ -15,10 +15,13 @@ use Rattle.frs_segment.specs.Scanning.{described}
 use Rattle.frs_slots.specs.Views.{TakerView}
 use Rattle.frs_writer.specs.Appending.{IsAtGate}
 use Rattle.frs_writer.specs.Holds.{IsCounted, ShowsFrom, durable_of, Holds, IsKept}
-use Rattle.frs_writer.specs.Shown.{Rests, new_segment}
+use Rattle.frs_writer.specs.Shown.{Rests, TakesNext, new_segment}
 use Rattle.frs_writer.specs.Writer.{WriterView, IsLog, WasEmpty, IsWellOpened}
+use Rattle.frs_writer.specs.Places.{length_of_newest}
+use Rattle.frs_writer.specs.Writing.{is_due}
 use Rattle.frs_writer.proofs.Keeping.{newest_is}
-use Rattle.frs_writer.proofs.Showing.{rests_shows, rests_end}
+use Rattle.frs_writer.proofs.Showing.{rests_shows, rests_end, rests_takes, some_records}
+use Rattle.frs_writer.proofs.Segments.{newest_length}
 use Rattle.frs_writer.proofs.Steps.{one_next, one_making}
 
 some_none : (f : Fault) → Some f ≡ None → ⊥
@@ -61,9 +64,18 @@ module _ {D : Type 0} (tells : D → Bool) (reads : D → Image) (may_leave : D 
     noted = kept.counted.noted;
   }
 
-  module _ (later : moment w.disk ≤ moment d) (told_same : tells d ≡ tells w.disk) (high : next_number < 2 ^ 62) (below : w.synced + 1 < 2 ^ 62)
+  module _ (later : moment w.disk ≤ moment d) (told_same : tells d ≡ tells w.disk) (high : next_number < 2 ^ 62) (due : is_due w ≡ true)
       (elsewhere : Within moment left_since w.disk d (AgreesElsewhere next_number (may_leave w.disk)))
       (making : IsTrue (tells w.disk) → Within moment left_since w.disk d (λ c. IsInTheMaking next_number (w.synced + 1) (get c next_number))) where
+    reached : IsTrue (nat_le (2 ^ 20) (length_of_newest w.segments)) × IsTrue (nat_lt (w.synced + 1) (2 ^ 62))
+    reached = and_parts (nat_le (2 ^ 20) (length_of_newest w.segments)) (nat_lt (w.synced + 1) (2 ^ 62)) due
+
+    below : w.synced + 1 < 2 ^ 62
+    below = ltb-true (w.synced + 1) (2 ^ 62) reached.1
+
+    long : 2 ^ 20 ≤ kept.counted.newest.length
+    long = omega (arith, leb-true (2 ^ 20) (length_of_newest w.segments) reached.0, ap length_of_newest kept.counted.segments, newest_length kept.counted.older kept.counted.newest)
+
     told_before : IsTrue (tells d) → IsTrue (tells w.disk)
     told_before told = subst IsTrue told_same told
 
@@ -76,26 +88,34 @@ module _ {D : Type 0} (tells : D → Bool) (reads : D → Image) (may_leave : D 
       held : Holds reads may_leave w log
       held = kept.holds told well log is_log placed
 
-      ends_at : (last : Segment) (c : Image) → Rests (WasEmpty reads w.opened) (entries c) log.first (durable_of w log).records last → (before : List Segment) → w.segments ≡ map described (before ++ last ∷ []) → w.synced + 1 ≡ log.first + length (durable_of w log).records
+      ends_at : (last : Segment) (c : Image) → Rests (WasEmpty reads w.opened) (LeftNoFile may_leave w.opened) (entries c) log.first (durable_of w log).records last → (before : List Segment) → w.segments ≡ map described (before ++ last ∷ []) → w.synced + 1 ≡ log.first + length (durable_of w log).records
       ends_at last c rests before segments = sym kept.counted.ends ∙ ap (λ (s : Described). s.«end») (newest_is w kept.counted before last segments) ∙ rests_end rests
 
-      pub rolled_images : Within moment left_since w.disk d (λ c. ShowsFrom (WasEmpty reads w.opened) w.synced log (entries c))
+      -- the newest segment has a record, so the next one can be made
+      takes : (last : Segment) (e : Image) (rests : Rests (WasEmpty reads w.opened) (LeftNoFile may_leave w.opened) (entries e) log.first (durable_of w log).records last) (before : List Segment) → w.segments ≡ map described (before ++ last ∷ [])
+          → LeftNoFile may_leave w.opened → TakesNext next_number (log.first + length (durable_of w log).records) (entries e) (rests_shows rests).segments
+      takes last e rests before segments fresh =
+          let newest : kept.counted.newest ≡ described last = newest_is w kept.counted before last segments in
+          subst (λ (n : ℕ). TakesNext n (log.first + length (durable_of w log).records) (entries e) (rests_shows rests).segments) (ap (λ (s : Described). s.number + 1) (sym newest))
+          (rests_takes rests (some_records last rests.made.chunks (omega (arith, long, ap (λ (s : Described). s.length) newest))) fresh)
+
+      pub rolled_images : Within moment left_since w.disk d (λ c. ShowsFrom (WasEmpty reads w.opened) (LeftNoFile may_leave w.opened) w.synced log (entries c))
       rolled_images c left =
           let (e, was, same) = elsewhere c left in
           let (last, rest, (before, segments)) = held.newest fine in (
             w.synced,
             omega arith,
             omega (arith, held.next_is, kept.counted.written),
-            one_making log.first (durable_of w log).records next_number (w.synced + 1) e c (rests_shows (rest e was)) same (none_there told e was)
+            one_making log.first (durable_of w log).records next_number (w.synced + 1) e c (rests_shows (rest e was)) (takes last e (rest e was) before segments) same (none_there told e was)
                 (ends_at last e (rest e was) before segments) (omega (arith, kept.counted.number)) high (omega arith) below (making told c left),
           )
 
       rolled_rests : IsSynced reads may_leave d next_number → get (reads d) next_number ≡ Some (empty_segment next_number (w.synced + 1))
-          → (c : Image) → may_leave d c → Rests (WasEmpty reads w.opened) (entries c) log.first (durable_of w log).records (new_segment next_number (w.synced + 1))
+          → (c : Image) → may_leave d c → Rests (WasEmpty reads w.opened) (LeftNoFile may_leave w.opened) (entries c) log.first (durable_of w log).records (new_segment next_number (w.synced + 1))
       rolled_rests durable made c left =
           let (e, was, same) = elsewhere c (counts_now d (moment w.disk) c later left) in
           let (last, rest, (before, segments)) = held.newest fine in
-          one_next log.first (durable_of w log).records next_number (w.synced + 1) e c (rests_shows (rest e was)) same (none_there told e was)
+          one_next log.first (durable_of w log).records next_number (w.synced + 1) e c (rests_shows (rest e was)) (takes last e (rest e was) before segments) same (none_there told e was)
           (ends_at last e (rest e was) before segments) (omega (arith, kept.counted.number)) high (omega arith) below (durable c left ∙ made)
 
       rolled_holds : IsSynced reads may_leave d next_number → get (reads d) next_number ≡ Some (empty_segment next_number (w.synced + 1)) → Holds reads may_leave rolled_view log

@@ -1,37 +1,19 @@
 -- What an image shows of a log, as its newest file grows, one more is made, and the newest files are read.
-use Rattle.std.proofs.Common.{◌≡◌, ◌≢◌, inl, inr, ⊎_elim, ℕ, ◌+◌, ◌-◌, ◌^◌, ◌<◌, ◌≤◌, Bool, true, false, not, cond, ◌&&◌, List, [], ◌∷◌, ◌++◌, length, take, drop, Option, Some, None, refl, sym, ap, subst, ◌∙◌, arith, IsTrue, append_assoc, length-append, take-append-drop, length-take-le, nat_lt, nat_le, nat_eq, slice_index, unwrap_or, option_map}
+use Rattle.std.proofs.Common.{◌≡◌, ◌≢◌, inl, inr, ℕ, ◌+◌, ◌-◌, ◌^◌, ◌<◌, ◌≤◌, true, not, ◌&&◌, List, [], ◌∷◌, ◌++◌, length, take, drop, Option, Some, None, refl, sym, ap, subst, ◌∙◌, arith, IsTrue, append_assoc, length-append, take-append-drop, length-take-le, nat_lt, nat_le, nat_eq, unwrap_or, option_map}
 use Rattle.std.specs.List.{AllZip, last_or, list_all, flat_map}
 use Rattle.std.specs.Ordering.{nat_cmp}
 use Rattle.std.specs.FinMap.Entries.{is_sorted}
-use Rattle.std.proofs.lemmas.Bool.{and_parts, and_from, and_left, and_right, cases_lt, ne_eqb, eq-eqb, eqb-true, le-leb, leb-true, lt-ltb, lt-leb}
+use Rattle.std.proofs.lemmas.Bool.{and_parts, and_from, cases_lt, ne_eqb, eq-eqb, eqb-true, le-leb, leb-true, lt-ltb}
 use Rattle.std.proofs.lemmas.List.{append-nil, drop_all}
-use Rattle.std.proofs.lemmas.List.Elements.{filter-append}
 use Rattle.std.proofs.lemmas.Grind.{flat_map-append}
 use Rattle.std.proofs.Math.Seq.{drop-append-add}
 use Rattle.frs_types.specs.declared.record.Record.{Record}
 use Rattle.frs_types.specs.Records.{Log, allowed, allowed_from, kind_allows, has_words, named_lowest, from_lowest}
 use Rattle.frs_segment.specs.Front.{header, empty_segment, IsHalfMade}
-use Rattle.frs_segment.specs.Segments.{File, Segment, IsSegment, Image, records_of, end_of, body, chunk_bytes, chunks_bytes, segment_spelling, is_chunk, are_chunks, is_open, open_files, all_records, follow_from, first_alone_reaches, first_of, are_enough, SpellsBy, Spells}
-use Rattle.frs_writer.specs.Shown.{Shows, Rests, file_of, with_chunk, new_segment}
-
--- ---- open files
-
--- a file that begins as a segment and has a byte behind it is open
-spelled_open : (n : ℕ) (s : Segment) (gate : ℕ) (rest : List ℕ) → is_open (n, segment_spelling s ++ gate ∷ rest) ≡ true
-spelled_open n s gate rest =
-    let long : 23 ≤ length (segment_spelling s ++ gate ∷ rest) = omega (arith, length-append (segment_spelling s) (gate ∷ rest), length-append (1 ∷ header s.number s.first) (chunks_bytes s.first s.chunks)) in
-    and_from _ _ (le-leb 23 (length (segment_spelling s ++ gate ∷ rest)) long) refl
-
-half_shut : (n : ℕ) (b : List ℕ) → IsHalfMade b → is_open (n, b) ≡ false
-half_shut n b half = ⊎_elim
-    (λ short. and_left (nat_le 23 (length b)) (nat_eq (slice_index b 0) 1) (lt-leb 23 (length b) short))
-    (λ gate. and_right (nat_le 23 (length b)) (nat_eq (slice_index b 0) 1) (ne_eqb (slice_index b 0) 1 gate)) half
-
-open_more : (image : Image) (f : File) → is_open f ≡ true → open_files (image ++ f ∷ []) ≡ open_files image ++ f ∷ []
-open_more image f is = filter-append is_open image (f ∷ []) ∙ ap (λ (o : Bool). open_files image ++ cond o (f ∷ []) []) is
-
-open_as_before : (image : Image) (f : File) → is_open f ≡ false → open_files (image ++ f ∷ []) ≡ open_files image
-open_as_before image f is = filter-append is_open image (f ∷ []) ∙ ap (λ (o : Bool). open_files image ++ cond o (f ∷ []) []) is ∙ append-nil (open_files image)
+use Rattle.frs_segment.specs.Order.{IsInOrder}
+use Rattle.frs_segment.specs.Segments.{File, Segment, IsSegment, Image, records_of, end_of, body, chunk_bytes, chunks_bytes, segment_spelling, is_chunk, are_chunks, open_files, all_records, follow_from, first_alone_reaches, first_of, are_enough, SpellsBy, Spells}
+use Rattle.frs_writer.specs.Shown.{Shows, Rests, TakesNext, file_of, with_chunk, new_segment}
+use Rattle.frs_writer.proofs.Order.{spelled_open, half_shut, open_more, open_as_before, all_open_more, with_open, with_half, takes_more, takes_first, none_looked, none_order}
 
 -- ---- lists of segments
 
@@ -110,12 +92,26 @@ some_record n rs is =
     let b = and_parts (nat_le 1 (length rs) && nat_le (length rs) 256) (nat_le (length (body rs)) (2 ^ 20)) a.0 in
     leb-true 1 (length rs) (and_parts (nat_le 1 (length rs)) (nat_le (length rs) 256) b.0).0
 
+-- a segment that is longer than its header has a record
+pub some_records : (s : Segment) → IsTrue (are_chunks s.first s.chunks) → 23 ≤ length (segment_spelling s) → 1 ≤ length (records_of s)
+some_records s all long = at s.chunks refl all
+  where
+    at : (chunks : List (List Record)) → s.chunks ≡ chunks → IsTrue (are_chunks s.first chunks) → 1 ≤ length (flat_map (λ (x : List Record). x) s.chunks)
+    at [] is all = absurd (omega (arith, long, ap (λ (l : List (List Record)). length ((1 ∷ header s.number s.first) ++ chunks_bytes s.first l)) is))
+    at (rs ∷ chunks) is all =
+        omega (
+          arith,
+          some_record s.first rs (and_parts (is_chunk s.first rs) (are_chunks (s.first + length rs) chunks) all).0,
+          ap (λ (l : List (List Record)). length (flat_map (λ (x : List Record). x) l)) is,
+          length-append rs (flat_map (λ (x : List Record). x) chunks),
+        )
+
 -- ---- the newest file, and what is written to it
 
 -- whatever stands behind the last file's closed gate
-pub rests_shut : {alone : Type 0} {image : Image} {first : ℕ} {records : List Record} {last : Segment} → (r : Rests alone image first records last) → (c : Image) (gate : ℕ) (rest : List ℕ) → gate ≢ 1 → IsTrue (is_sorted nat_cmp c)
-    → c ≡ r.front ++ (last.number, segment_spelling last ++ gate ∷ rest) ∷ [] → Shows alone c first records
-rests_shut {last = last} r c gate rest other sorted is =
+pub rests_shut : {alone fresh : Type 0} {image : Image} {first : ℕ} {records : List Record} {last : Segment} → (r : Rests alone fresh image first records last) → (c : Image) (gate : ℕ) (rest : List ℕ) → gate ≢ 1 → IsTrue (is_sorted nat_cmp c)
+    → c ≡ r.front ++ (last.number, segment_spelling last ++ gate ∷ rest) ∷ [] → Shows alone fresh c first records
+rests_shut {first = first} {records = records} {last = last} r c gate rest other sorted is =
     let file : File = (last.number, segment_spelling last ++ gate ∷ rest) in
     record {
       rising = sorted;
@@ -130,6 +126,9 @@ rests_shut {last = last} r c gate rest other sorted is =
       shown = r.shown;
       alone_is = r.alone_is;
       whole = r.whole;
+      fresh_is = λ fresh.
+          subst (λ (x : Image). IsInOrder 1 (first + length records) x (r.segments ++ last ∷ [])) (sym is)
+          (with_open 1 (first + length records) r.front file r.segments last (spelled_open last.number last gate rest) (r.fresh_is fresh));
     }
   where
     made : IsSegment (last.number, segment_spelling last ++ gate ∷ rest) last
@@ -145,11 +144,11 @@ rests_shut {last = last} r c gate rest other sorted is =
     }
 
 -- as it stands
-pub rests_shows : {alone : Type 0} {image : Image} {first : ℕ} {records : List Record} {last : Segment} → Rests alone image first records last → Shows alone image first records
+pub rests_shows : {alone fresh : Type 0} {image : Image} {first : ℕ} {records : List Record} {last : Segment} → Rests alone fresh image first records last → Shows alone fresh image first records
 rests_shows {image = image} r = rests_shut r image 0 [] (omega arith) r.rising r.files
 
 -- the last file ends at the next LSN
-pub rests_end : {alone : Type 0} {image : Image} {first : ℕ} {records : List Record} {last : Segment} → Rests alone image first records last → end_of last ≡ first + length records
+pub rests_end : {alone fresh : Type 0} {image : Image} {first : ℕ} {records : List Record} {last : Segment} → Rests alone fresh image first records last → end_of last ≡ first + length records
 rests_end {records = records} {last = last} r =
     let start = first_of (r.segments ++ last ∷ []) in
     let here = and_parts (nat_eq last.first (start + length (all_records r.segments))) true (follow_behind start r.segments (last ∷ []) r.follow) in
@@ -162,9 +161,22 @@ rests_end {records = records} {last = last} r =
       length-append r.earlier records,
     )
 
+-- all files are open
+pub rests_open : {alone fresh : Type 0} {image : Image} {first : ℕ} {records : List Record} {last : Segment} → (r : Rests alone fresh image first records last) → fresh → open_files image ≡ image
+rests_open {last = last} r fresh =
+    ap open_files r.files ∙ all_open_more r.front (file_of last) (spelled_open last.number last 0 []) (r.fresh_is fresh).all_open ∙ sym r.files
+
+-- where the last file has a record one more can stand behind it
+pub rests_takes : {alone fresh : Type 0} {image : Image} {first : ℕ} {records : List Record} {last : Segment} → (r : Rests alone fresh image first records last) → 1 ≤ length (records_of last) → fresh
+    → TakesNext (last.number + 1) (first + length records) image (rests_shows r).segments
+unfolding rests_shut rests_shows
+rests_takes {first = first} {records = records} {last = last} r some fresh =
+    subst (λ (x : Image). TakesNext (last.number + 1) (first + length records) x (r.segments ++ last ∷ [])) (sym r.files)
+    (takes_more (first + length records) r.front (file_of last) r.segments last (spelled_open last.number last 0 []) (r.fresh_is fresh) (omega (arith, some, rests_end r)))
+
 -- the last file has one more chunk
-pub rests_chunk : {alone : Type 0} {image : Image} {first : ℕ} {records : List Record} {last : Segment} → (r : Rests alone image first records last) → (rs : List Record) → IsTrue (is_chunk (end_of last) rs) → end_of last + length rs ≤ 2 ^ 62
-    → (c : Image) → IsTrue (is_sorted nat_cmp c) → c ≡ r.front ++ file_of (with_chunk last rs) ∷ [] → Rests alone c first (records ++ rs) (with_chunk last rs)
+pub rests_chunk : {alone fresh : Type 0} {image : Image} {first : ℕ} {records : List Record} {last : Segment} → (r : Rests alone fresh image first records last) → (rs : List Record) → IsTrue (is_chunk (end_of last) rs) → end_of last + length rs ≤ 2 ^ 62
+    → (c : Image) → IsTrue (is_sorted nat_cmp c) → c ≡ r.front ++ file_of (with_chunk last rs) ∷ [] → Rests alone fresh c first (records ++ rs) (with_chunk last rs)
 rests_chunk {records = records} {last = last} r rs chunk within c sorted is = record {
   rising = sorted;
   front = r.front;
@@ -193,10 +205,11 @@ rests_chunk {records = records} {last = last} r rs chunk within c sorted is = re
       ∙ append_assoc r.earlier records rs;
   alone_is = r.alone_is;
   whole = λ none. absurd (omega (arith, some_record (end_of last) rs chunk, ap length none, length-append records rs));
+  fresh_is = r.fresh_is;
 }
 
 -- a log stands alone under one condition where it does under another
-pub shows_as : {alone other : Type 0} {image : Image} {first : ℕ} {records : List Record} → (alone → other) → (other → alone) → Shows alone image first records → Shows other image first records
+pub shows_as : {alone other fresh : Type 0} {image : Image} {first : ℕ} {records : List Record} → (alone → other) → (other → alone) → Shows alone fresh image first records → Shows other fresh image first records
 shows_as then when s = record {
   rising = s.rising;
   older = s.older;
@@ -210,9 +223,10 @@ shows_as then when s = record {
   shown = s.shown;
   alone_is = λ is. s.alone_is (when is);
   whole = λ none. then (s.whole none);
+  fresh_is = s.fresh_is;
 }
 
-pub rests_as : {alone other : Type 0} {image : Image} {first : ℕ} {records : List Record} {last : Segment} → (alone → other) → (other → alone) → Rests alone image first records last → Rests other image first records last
+pub rests_as : {alone other fresh : Type 0} {image : Image} {first : ℕ} {records : List Record} {last : Segment} → (alone → other) → (other → alone) → Rests alone fresh image first records last → Rests other fresh image first records last
 rests_as then when r = record {
   rising = r.rising;
   front = r.front;
@@ -229,13 +243,19 @@ rests_as then when r = record {
   shown = r.shown;
   alone_is = λ is. r.alone_is (when is);
   whole = λ none. then (r.whole none);
+  fresh_is = r.fresh_is;
 }
 
 -- ---- one more file
 
+-- where there is no file yet the first one can be made
+pub shows_takes : {alone fresh : Type 0} {image : Image} {first : ℕ} {records : List Record} → (s : Shows alone fresh image first records) → (number : ℕ) → image ≡ [] → number ≡ 1 → TakesNext number (first + length records) image s.segments
+shows_takes {image = image} {first = first} {records = records} s number none is =
+    takes_first number (first + length records) image s.segments none (none_looked image s.older s.looked s.segments none s.files s.each) is
+
 -- a half-made file above the others
-pub shows_half : {alone : Type 0} {image : Image} {first : ℕ} {records : List Record} → Shows alone image first records → (n : ℕ) (b : List ℕ) → IsHalfMade b → (c : Image) → IsTrue (is_sorted nat_cmp c) → c ≡ image ++ (n, b) ∷ [] → Shows alone c first records
-shows_half {image = image} s n b half c sorted is = record {
+pub shows_half : {alone fresh : Type 0} {image : Image} {first : ℕ} {records : List Record} → (s : Shows alone fresh image first records) → (n : ℕ) → (fresh → TakesNext n (first + length records) image s.segments) → (b : List ℕ) → IsHalfMade b → (c : Image) → IsTrue (is_sorted nat_cmp c) → c ≡ image ++ (n, b) ∷ [] → Shows alone fresh c first records
+shows_half {image = image} {first = first} {records = records} s n takes b half c sorted is = record {
   rising = sorted;
   older = s.older;
   looked = s.looked;
@@ -248,6 +268,9 @@ shows_half {image = image} s n b half c sorted is = record {
   shown = s.shown;
   alone_is = s.alone_is;
   whole = s.whole;
+  fresh_is = λ fresh.
+      subst (λ (x : Image). IsInOrder 1 (first + length records) x s.segments) (sym is)
+      (with_half (first + length records) image (n, b) s.segments (half_shut n b half) (takes fresh));
 }
 
 -- what a segment without a chunk is behind others
@@ -269,9 +292,9 @@ next (s ∷ segments) earlier records first t follow begins shown is = record {
 }
 
 -- a segment without a chunk above the others
-pub shows_next : {alone : Type 0} {image : Image} {first : ℕ} {records : List Record} → Shows alone image first records → (n f : ℕ) → f ≡ first + length records → 1 ≤ n → n < 2 ^ 62 → 1 ≤ f → f < 2 ^ 62
-    → (c : Image) → IsTrue (is_sorted nat_cmp c) → c ≡ image ++ (n, empty_segment n f) ∷ [] → Rests alone c first records (new_segment n f)
-shows_next {image = image} {first = first} {records = records} s n f first_is some below first_some first_below c sorted is =
+pub shows_next : {alone fresh : Type 0} {image : Image} {first : ℕ} {records : List Record} → (s : Shows alone fresh image first records) → (n f : ℕ) → (fresh → TakesNext n (first + length records) image s.segments) → f ≡ first + length records → 1 ≤ n → n < 2 ^ 62 → 1 ≤ f → f < 2 ^ 62
+    → (c : Image) → IsTrue (is_sorted nat_cmp c) → c ≡ image ++ (n, empty_segment n f) ∷ [] → Rests alone fresh c first records (new_segment n f)
+shows_next {image = image} {first = first} {records = records} s n f takes first_is some below first_some first_below c sorted is =
     let t = new_segment n f in
     let at = next s.segments s.earlier records first t s.follow s.begins s.shown first_is in
     record {
@@ -299,6 +322,7 @@ shows_next {image = image} {first = first} {records = records} s n f first_is so
       shown = all_records_more s.segments t ∙ append-nil (all_records s.segments) ∙ s.shown;
       alone_is = s.alone_is;
       whole = s.whole;
+      fresh_is = λ fresh. subst (λ (m : ℕ). TakesNext n m image s.segments) (sym first_is) (takes fresh);
     }
 
 -- ---- what the records of a segment name
@@ -424,10 +448,10 @@ told older looked segments (r ∷ rs) is each follow enough =
     (named_below (first_of segments) (r ∷ rs) (λ e. cc) (subst (λ (x : List Record). IsTrue (allowed_from (first_of segments) x)) is (all_allowed (first_of segments) looked segments each follow)))
 
 -- an image shows the log that it spells
-pub base_shows : (image : Image) (segments : List Segment) (log : Log) → SpellsBy image segments log → Shows (log.records ≡ []) image log.first log.records
-base_shows image segments log p =
+pub base_shows : {fresh : Type 0} (image : Image) (segments : List Segment) (log : Log) → (fresh → image ≡ []) → SpellsBy image segments log → Shows (log.records ≡ []) fresh image log.first log.records
+base_shows {fresh = fresh} image segments log empty p =
     let t = told p.older p.looked segments (all_records segments) refl p.each p.follow p.enough in
-    subst (λ (l : Log). Shows (l.records ≡ []) image l.first l.records) (sym p.shown) (record {
+    subst (λ (l : Log). Shows (l.records ≡ []) fresh image l.first l.records) (sym p.shown) (record {
       rising = p.rising;
       older = p.older;
       looked = p.looked;
@@ -440,6 +464,7 @@ base_shows image segments log p =
       shown = t.shown;
       alone_is = t.whole;
       whole = λ none. none;
+      fresh_is = λ is. none_order _ image segments (empty is) (none_looked image p.older p.looked segments (empty is) p.files p.each);
     })
 
 -- the first LSN of a spelled log is the lowest that its newest record names
@@ -503,7 +528,7 @@ apart (f ∷ looked) (s ∷ before) behind each =
 same_log : (first other : ℕ) (records others : List Record) → named_lowest records ≡ named_lowest others → drop (named_lowest records - first) records ≡ drop (named_lowest others - other) others → from_lowest first records ≡ from_lowest other others
 same_log first other records others p q i = record { first = p i; records = q i }
 
-module _ {alone : Type 0} (image : Image) (first : ℕ) (records : List Record) (s : Shows alone image first records) where
+module _ {alone fresh : Type 0} (image : Image) (first : ℕ) (records : List Record) (s : Shows alone fresh image first records) where
   none_spelled : records ≡ [] → Spells image (from_lowest first records)
   none_spelled none =
       let whole = s.alone_is (s.whole none) in
@@ -593,6 +618,6 @@ module _ {alone : Type 0} (image : Image) (first : ℕ) (records : List Record) 
     )
 
 -- the log is spelled from the lowest on that its newest record names, where it is shown from there on
-pub spells : {alone : Type 0} (image : Image) (first : ℕ) (records : List Record) → Shows alone image first records → ((records ≡ [] → ⊥) → first ≤ named_lowest records) → Spells image (from_lowest first records)
+pub spells : {alone fresh : Type 0} (image : Image) (first : ℕ) (records : List Record) → Shows alone fresh image first records → ((records ≡ [] → ⊥) → first ≤ named_lowest records) → Spells image (from_lowest first records)
 spells image first [] s le = none_spelled image first [] s refl
 spells image first (r ∷ rs) s le = some_spelled image first (r ∷ rs) s (λ e. cc) (le (λ e. cc))

@@ -38,7 +38,7 @@ module _ {D : Type 0} (tells : D → Bool) (reads : D → Image) (may_leave : D 
   base_within synced first =
       omega (arith, first, held.next_is, ap next_lsn is_log.is, length-append is_log.base.records is_log.taken, ap length is_log.bytes, length-map is_log.taken spelling)
 
-  pub spells_from : {alone : Type 0} (synced : ℕ) → w.taker.first ≤ synced + 1 → (c : Image) → ShowsFrom alone synced log (entries c) → SpellsFrom synced log c
+  pub spells_from : {alone fresh : Type 0} (synced : ℕ) → w.taker.first ≤ synced + 1 → (c : Image) → ShowsFrom alone fresh synced log (entries c) → SpellsFrom synced log c
   spells_from synced first c (n, least, most, shows) = (
     n,
     least,

@@ -46,9 +46,6 @@ pub all_gone : (numbers : List ℕ) (i : ℕ) → length numbers ≤ i → (c : 
 all_gone numbers i most c gone = All-from_get_or (λ (n : ℕ). get c n ≡ None) numbers 0 (λ k lt. gone k (omega (arith, lt, most)))
 
 module _ {D : Type 0} (moment : D → ℕ) (left_since : D → ℕ → Image → Type 0) (may_leave : D → Image → Type 0) (numbers : List ℕ) where
-  pub no_time : (disk : D) → Passes moment left_since disk disk
-  no_time disk = record { later = omega arith; splits = λ t c le left. inl left; keeps = λ t c le left. left }
-
   pub thin_start : (old : D) → ((c : Image) → left_since old (moment old) c → may_leave old c) → Within moment left_since old old (IsThinned numbers (may_leave old))
   thin_start old only c left = (c, only c left, thin_none numbers c)
 

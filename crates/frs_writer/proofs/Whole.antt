@@ -4,47 +4,67 @@ use Rattle.std.specs.List.{AllZip}
 use Rattle.std.specs.FinMap.{entries}
 use Rattle.frs_types.specs.declared.record.Record.{Record}
 use Rattle.frs_types.specs.Records.{Log, Placed}
-use Rattle.frs_disk.specs.Disk.{Image, Within}
-use Rattle.frs_segment.specs.Segments.{Image as Files, IsSegment, Spells, follow_from}
+use Rattle.frs_disk.specs.Disk.{Image, Within, LeftNoFile}
+use Rattle.frs_segment.specs.Order.{IsInOrder}
+use Rattle.frs_segment.proofs.Order.{none_half}
+use Rattle.frs_segment.specs.Segments.{Image as Files, Segment, IsSegment, open_files, Spells, follow_from}
 use Rattle.frs_writer.specs.Holds.{ShowsFrom, IsKept}
-use Rattle.frs_writer.specs.Shown.{Shows}
+use Rattle.frs_writer.specs.Shown.{Shows, Rests}
 use Rattle.frs_writer.specs.Writer.{WriterView, IsLog, WasEmpty, IsWellOpened}
-use Rattle.frs_writer.specs.Writing.{HoldsAll, HoldsFrom}
-use Rattle.frs_writer.proofs.Showing.{base_shows, rests_shows}
+use Rattle.frs_writer.specs.Writing.{HoldsAll, HoldsLog, HoldsFrom}
+use Rattle.frs_writer.proofs.Showing.{base_shows, rests_shows, rests_open}
 
-pub shows_whole : {alone : Type 0} (image : Files) (first : ℕ) (records : List Record) → Shows alone image first records → alone → HoldsAll image records
-shows_whole image first records s is =
-    let (none, start, one) = s.alone_is is in
-    record {
-      rising = s.rising;
-      segments = s.segments;
-      each = subst (λ (files : Files). AllZip IsSegment files s.segments) (sym (ap (λ (x : Files). x ++ s.looked) none) ∙ s.files) s.each;
-      follow = subst (λ (n : ℕ). IsTrue (follow_from n s.segments)) (omega (arith, s.begins, one, ap length start)) s.follow;
-      shown = s.shown ∙ ap (λ (x : List Record). x ++ records) start;
-    }
+module _ {alone fresh : Type 0} (image : Files) (first : ℕ) (records : List Record) (s : Shows alone fresh image first records) (is : alone) where
+  shows_all : HoldsAll image records
+  shows_all =
+      let (none, start, one) = s.alone_is is in
+      record {
+        rising = s.rising;
+        segments = s.segments;
+        each = subst (λ (files : Files). AllZip IsSegment files s.segments) (sym (ap (λ (x : Files). x ++ s.looked) none) ∙ s.files) s.each;
+        follow = subst (λ (n : ℕ). IsTrue (follow_from n s.segments)) (omega (arith, s.begins, one, ap length start)) s.follow;
+        shown = s.shown ∙ ap (λ (x : List Record). x ++ records) start;
+      }
+
+  shows_order : fresh → IsInOrder 1 (length records + 1) image s.segments
+  shows_order f = subst (λ (n : ℕ). IsInOrder 1 n image s.segments) (omega (arith, (s.alone_is is).2)) (s.fresh_is f)
+
+  pub shows_whole : HoldsLog fresh 1 image records
+  unfolding shows_all
+  shows_whole = (shows_all, λ f. record { all = shows_all; order = shows_order f })
+
+  -- and nothing else where all files are open
+  pub shows_open : (fresh → open_files image ≡ image) → HoldsLog fresh 0 image records
+  unfolding shows_all
+  shows_open all_open = (shows_all, λ f. record { all = shows_all; order = none_half 0 (length records + 1) image s.segments (all_open f) (shows_order f) })
 
 -- the records up to the LSN n are n
-pub shows_first : {alone : Type 0} (n : ℕ) (log : Log) (image : Files) → Shows alone image log.first (take (n + 1 - log.first) log.records) → alone → HoldsAll image (take n log.records)
-shows_first n log image s is =
+shows_first : {alone fresh : Type 0} (n : ℕ) (log : Log) (image : Files) → Shows alone fresh image log.first (take (n + 1 - log.first) log.records) → alone → HoldsLog fresh 1 image (take n log.records)
+shows_first {fresh = fresh} n log image s is =
     let one : log.first ≡ 1 = (s.alone_is is).2 in
-    subst (λ (k : ℕ). HoldsAll image (take k log.records)) (omega (arith, one)) (shows_whole image log.first (take (n + 1 - log.first) log.records) s is)
+    subst (λ (k : ℕ). HoldsLog fresh 1 image (take k log.records)) (omega (arith, one)) (shows_whole image log.first (take (n + 1 - log.first) log.records) s is)
 
-pub from_whole : {alone : Type 0} (synced : ℕ) (log : Log) (c : Image) → ShowsFrom alone synced log (entries c) → alone → HoldsFrom synced log c
+rests_first : {alone fresh : Type 0} (n : ℕ) (log : Log) (image : Files) (last : Segment) → Rests alone fresh image log.first (take (n + 1 - log.first) log.records) last → alone → HoldsLog fresh 0 image (take n log.records)
+rests_first {fresh = fresh} n log image last r is =
+    let one : log.first ≡ 1 = (r.alone_is is).2 in
+    subst (λ (k : ℕ). HoldsLog fresh 0 image (take k log.records)) (omega (arith, one)) (shows_open image log.first (take (n + 1 - log.first) log.records) (rests_shows r) is (rests_open r))
+
+pub from_whole : {alone fresh : Type 0} (synced : ℕ) (log : Log) (c : Image) → ShowsFrom alone fresh synced log (entries c) → alone → HoldsFrom fresh synced log c
 from_whole synced log c (n, least, most, shows) is = (n, least, most, shows_first n log (entries c) shows is)
 
 -- an image that spells the empty log
-pub spelled_none : (image : Files) → Spells image (record { first = 1; records = [] }) → HoldsAll image []
-spelled_none image (segments, by) = shows_whole image 1 [] (base_shows image segments (record { first = 1; records = [] }) by) refl
+pub spelled_none : {fresh : Type 0} (image : Files) → (fresh → image ≡ []) → Spells image (record { first = 1; records = [] }) → HoldsLog fresh 1 image []
+spelled_none image none (segments, by) = shows_whole image 1 [] (base_shows image segments (record { first = 1; records = [] }) none by) refl
 
 module _ {D : Type 0} (tells : D → Bool) (reads : D → Image) (may_leave : D → Image → Type 0) (removing : D → ℕ → Type 0) (w : WriterView D) (kept : IsKept tells reads may_leave removing w)
     (told : IsTrue (tells w.disk)) (well : IsWellOpened reads may_leave w.opened) (log : Log) (is_log : IsLog reads w log) (placed : Placed log) (empty : WasEmpty reads w.opened) where
   -- what is durable, where nothing was cut short
-  pub durable_whole : w.ended ≡ None → (c : Image) → may_leave w.disk c → HoldsAll (entries c) (take w.synced log.records)
+  pub durable_whole : w.ended ≡ None → (c : Image) → may_leave w.disk c → HoldsLog (LeftNoFile may_leave w.opened) 0 (entries c) (take w.synced log.records)
   durable_whole fine c left =
       let (last, rests, segments) = (kept.holds told well log is_log placed).newest fine in
-      shows_first w.synced log (entries c) (rests_shows (rests c left)) empty
+      rests_first w.synced log (entries c) last (rests c left) empty
 
   -- a writer that was left as it was
   pub unchanged_whole : (moment : D → ℕ) (left_since : D → ℕ → Image → Type 0) → ((disk : D) (c : Image) → left_since disk (moment disk) c → may_leave disk c)
-      → Within moment left_since w.disk w.disk (HoldsFrom w.synced log)
+      → Within moment left_since w.disk w.disk (HoldsFrom (LeftNoFile may_leave w.opened) w.synced log)
   unchanged_whole moment left_since only_now c left = from_whole w.synced log c ((kept.holds told well log is_log placed).each c (only_now w.disk c left)) empty

@@ -6,7 +6,7 @@ use Rattle.std.specs.FinMap.{entries, get}
 use Rattle.frs_types.specs.Records.{Log, Placed}
 use Rattle.frs_disk.specs.declared.disk.Fault.{Fault}
 use Rattle.frs_disk.specs.declared.disk.Fault.TheVariants.{Failed, Memory}
-use Rattle.frs_disk.specs.Disk.{Image, Within, Rose, HasCause, bytes_at}
+use Rattle.frs_disk.specs.Disk.{Image, Within, Rose, HasCause, bytes_at, LeftNoFile}
 use Rattle.frs_segment.specs.declared.layout.Segment.{Segment as Described}
 use Rattle.frs_segment.specs.Segments.{Spells}
 use Rattle.frs_slots.specs.Views.{TakerView}
@@ -95,7 +95,7 @@ module _ {D : Type 0} (tells : D → Bool) (reads : D → Image) (may_leave : D 
   ])
 
   pub put_images : (w' : WriterView D) → w'.opened ≡ w.opened → w'.taker ≡ t → IsTrue (tells w.disk) → IsWellOpened reads may_leave w.opened → (log' : Log) → IsLog reads w' log' → Placed log'
-      → Within moment left_since w.disk d (λ c. ShowsFrom (WasEmpty reads w.opened) w.synced log' (entries c))
+      → Within moment left_since w.disk d (λ c. ShowsFrom (WasEmpty reads w.opened) (LeftNoFile may_leave w.opened) w.synced log' (entries c))
   put_images w' same taker told well log' is_log placed = elim (cases_lt 0 (length group)) [
     | inl lt ↦
         let some : 1 ≤ length group = omega (arith, lt) in

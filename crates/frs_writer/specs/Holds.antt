@@ -4,7 +4,7 @@ use Rattle.std.specs.Prelude.{◌≡◌, ℕ, ◌+◌, ◌-◌, ◌^◌, ◌<◌
 use Rattle.std.specs.Option.{option_to_list}
 use Rattle.std.specs.FinMap.{entries, get}
 use Rattle.frs_types.specs.Records.{Log, Placed, next_lsn}
-use Rattle.frs_disk.specs.Disk.{Image as Disk, IsNumber, IsSynced}
+use Rattle.frs_disk.specs.Disk.{Image as Disk, IsNumber, IsSynced, LeftNoFile}
 use Rattle.frs_segment.specs.declared.layout.Segment.{Segment as Described}
 use Rattle.frs_segment.specs.Segments.{Image, Segment}
 use Rattle.frs_segment.specs.Scanning.{described}
@@ -48,8 +48,8 @@ pub record IsAtWork {D : Type 0} (reads : D → Disk) (may_leave : D → Disk �
 -- ---- the log
 
 -- the image shows the log up to a record that isn't before this LSN
-abbrev pub ShowsFrom : Type 0 → ℕ → Log → Image → Type 0
-ShowsFrom alone synced log image = (n : ℕ) × (synced ≤ n) × (n < next_lsn log) × Shows alone image log.first (take (n + 1 - log.first) log.records)
+abbrev pub ShowsFrom : Type 0 → Type 0 → ℕ → Log → Image → Type 0
+ShowsFrom alone fresh synced log image = (n : ℕ) × (synced ≤ n) × (n < next_lsn log) × Shows alone fresh image log.first (take (n + 1 - log.first) log.records)
 
 -- what of the log is durable
 abbrev pub durable_of : {D : Type 0} → WriterView D → Log → Log
@@ -60,9 +60,9 @@ durable_of w log = record log { records = take (w.synced + 1 - log.first) log.re
 -- was empty at the opening.
 pub record Holds {D : Type 0} (reads : D → Disk) (may_leave : D → Disk → Type 0) (w : WriterView D) (log : Log) : Type 0 where
   pub next_is : next_lsn log ≡ next_taken w.taker
-  pub each : (c : Disk) → may_leave w.disk c → ShowsFrom (WasEmpty reads w.opened) w.synced log (entries c)
+  pub each : (c : Disk) → may_leave w.disk c → ShowsFrom (WasEmpty reads w.opened) (LeftNoFile may_leave w.opened) w.synced log (entries c)
   pub newest : w.ended ≡ None → (last : Segment)
-      × ((c : Disk) → may_leave w.disk c → Rests (WasEmpty reads w.opened) (entries c) log.first (durable_of w log).records last)
+      × ((c : Disk) → may_leave w.disk c → Rests (WasEmpty reads w.opened) (LeftNoFile may_leave w.opened) (entries c) log.first (durable_of w log).records last)
       × ((before : List Segment) × (w.segments ≡ map described (before ++ last ∷ [])))
 
 -- ---- all of it

@@ -1,15 +1,27 @@
 -- What an image shows of a log while the log is written.
 use Rattle.std.specs.Prelude.{◌≡◌, ℕ, ◌+◌, List, [], ◌∷◌, ◌++◌, length, IsTrue}
-use Rattle.std.specs.List.{AllZip}
+use Rattle.std.specs.List.{AllZip, range_with_len}
+use Rattle.std.specs.List.Sorted.{IsStrictlyIncreasing}
 use Rattle.std.specs.FinMap.Entries.{is_sorted}
 use Rattle.std.specs.Ordering.{nat_cmp}
 use Rattle.frs_types.specs.declared.record.Record.{Record}
+use Rattle.frs_segment.specs.Order.{IsInOrder, firsts_of}
+use Rattle.frs_segment.specs.Stores.{numbers_of}
 use Rattle.frs_segment.specs.Segments.{Image, Segment, IsSegment, segment_spelling, open_files, follow_from, first_of, all_records}
+
+-- All files are open and have the numbers from 1 on, the next file has this number, and it is to begin at this LSN, above
+-- those at which the segments begin.
+pub record TakesNext (number next : ℕ) (image : Image) (segments : List Segment) : Type 0 where
+  pub all_open : open_files image ≡ image
+  pub numbers : numbers_of image ≡ range_with_len 1 (length image)
+  pub number_is : number ≡ length image + 1
+  pub rise : IsStrictlyIncreasing (firsts_of segments ++ next ∷ [])
 
 -- The newest open files of the image are segments that follow each other, and their records are these from the LSN first
 -- on, behind earlier ones. Where the log stands alone no other file is open, none is earlier, and the first record has the
--- LSN 1, or would have it. Without a record it stands alone.
-pub record Shows (alone : Type 0) (image : Image) (first : ℕ) (records : List Record) : Type 0 where
+-- LSN 1, or would have it. Without a record it stands alone. Where the store was fresh its files are in order, and at
+-- most one is half-made.
+pub record Shows (alone fresh : Type 0) (image : Image) (first : ℕ) (records : List Record) : Type 0 where
   pub rising : IsTrue (is_sorted nat_cmp image)
   pub older : Image
   pub looked : Image
@@ -22,13 +34,15 @@ pub record Shows (alone : Type 0) (image : Image) (first : ℕ) (records : List 
   pub shown : all_records segments ≡ earlier ++ records
   pub alone_is : alone → (older ≡ []) × (earlier ≡ []) × (first ≡ 1)
   pub whole : records ≡ [] → alone
+  pub fresh_is : fresh → IsInOrder 1 (first + length records) image segments
 
 -- the segment's file, whose last gate is closed and the last of its bytes
 abbrev pub file_of : Segment → ℕ × List ℕ
 file_of s = (s.number, segment_spelling s ++ 0 ∷ [])
 
--- The same, and the last file is this segment: nothing else stands behind its closed gate or above it.
-pub record Rests (alone : Type 0) (image : Image) (first : ℕ) (records : List Record) (last : Segment) : Type 0 where
+-- The same, and the last file is this segment: nothing else stands behind its closed gate or above it. Where the store was
+-- fresh this one is the next file behind those in front, which are all open.
+pub record Rests (alone fresh : Type 0) (image : Image) (first : ℕ) (records : List Record) (last : Segment) : Type 0 where
   pub rising : IsTrue (is_sorted nat_cmp image)
   pub front : Image
   pub files : image ≡ front ++ file_of last ∷ []
@@ -44,6 +58,7 @@ pub record Rests (alone : Type 0) (image : Image) (first : ℕ) (records : List 
   pub shown : all_records (segments ++ last ∷ []) ≡ earlier ++ records
   pub alone_is : alone → (older ≡ []) × (earlier ≡ []) × (first ≡ 1)
   pub whole : records ≡ [] → alone
+  pub fresh_is : fresh → TakesNext last.number last.first front segments
 
 -- the segment with one more chunk
 abbrev pub with_chunk : Segment → List Record → Segment

@@ -13,6 +13,7 @@ use Rattle.frs_segment.specs.declared.layout.Segment.{Segment as Described}
 use Rattle.frs_segment.specs.Segments.{Segment, IsSegment, Spells, open_files, follow_from, all_records}
 use Rattle.frs_segment.specs.Segments.{Image as Files}
 use Rattle.frs_segment.specs.Scanning.{described}
+use Rattle.frs_segment.specs.Order.{IsInOrder}
 use Rattle.frs_segment.specs.Stores.{log_up_to}
 use Rattle.frs_writer.specs.declared.fault.WriteFault.{WriteFault}
 use Rattle.frs_writer.specs.declared.fault.WriteFault.TheVariants.{Disk, Broken, NumberLimit, Memory}
@@ -84,9 +85,19 @@ pub record HoldsAll (image : Files) (records : List Record) : Type 0 where
   pub follow : IsTrue (follow_from 1 segments)
   pub shown : all_records segments ≡ records
 
--- all of the log, up to a record that isn't before the LSN synced; the first record has the LSN 1
-abbrev pub HoldsFrom : ℕ → Log → Image → Type 0
-HoldsFrom synced log c = (n : ℕ) × (synced ≤ n) × (n < next_lsn log) × HoldsAll (entries c) (take n log.records)
+-- and its files are in order, with at most so many half-made ones
+pub record HoldsOnly (most : ℕ) (image : Files) (records : List Record) : Type 0 where
+  pub all : HoldsAll image records
+  pub order : IsInOrder most (length records + 1) image all.segments
+
+-- these records, and where the store was fresh its files are in order, with at most so many half-made ones
+abbrev pub HoldsLog : Type 0 → ℕ → Files → List Record → Type 0
+HoldsLog fresh most image records = HoldsAll image records × (fresh → HoldsOnly most image records)
+
+-- The log, up to a record that isn't before the LSN synced; the first record has the LSN 1. Where
+-- the store was fresh its files are in order, and at most one is half-made.
+abbrev pub HoldsFrom : Type 0 → ℕ → Log → Image → Type 0
+HoldsFrom fresh synced log c = (n : ℕ) × (synced ≤ n) × (n < next_lsn log) × HoldsLog fresh 1 (entries c) (take n log.records)
 
 -- Where the writer was well opened and its log is placed, each image has this.
 abbrev pub OfPlacedLog : {D : Type 0} → (D → Image) → (D → Image → Type 0) → WriterView D → (Log → Type 0) → Type 0

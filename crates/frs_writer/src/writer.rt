@@ -3,7 +3,7 @@ ghost use Rattle.std.specs.Prelude.{◌≡◌, ◌≢◌, ◌↔◌, ◌+◌, �
 ghost use Rattle.std.specs.FinMap.{entries};
 ghost use mathlib.Core.List.{IsPrefix};
 ghost use Rattle.frs_types.specs.Records.{Log};
-ghost use Rattle.frs_disk.specs.Disk.{Image, IsSynced, Passes, Within, Rose, NoneRemovedAbove};
+ghost use Rattle.frs_disk.specs.Disk.{Image, IsSynced, Passes, Within, Rose, NoneRemovedAbove, LeftNoFile};
 ghost use Rattle.frs_segment.specs.Segments.{Segment as Meant, Spells};
 ghost use Rattle.frs_segment.specs.Stores.{IsFound, log_up_to};
 ghost use Rattle.frs_segment.specs.Scanning.{described};
@@ -12,7 +12,7 @@ ghost use Rattle.frs_writer.specs.declared.fault.WriteFault.TheVariants.{NumberL
 ghost use Rattle.frs_writer.specs.Places.{number_of_newest};
 ghost use Rattle.frs_writer.specs.Shown.{new_segment};
 ghost use Rattle.frs_writer.specs.Writer.{WasEmpty, IsWellOpened};
-ghost use Rattle.frs_writer.specs.Writing.{is_due, Wrote, SpellsFrom, HoldsAll, HoldsFrom, OfPlacedLog, HasOpeningCause, HasWriteCause};
+ghost use Rattle.frs_writer.specs.Writing.{is_due, Wrote, SpellsFrom, HoldsLog, HoldsFrom, OfPlacedLog, HasOpeningCause, HasWriteCause};
 
 use crate::chunk::Chunk;
 use crate::fault::{NotYet, Refused, WriteFault};
@@ -74,7 +74,7 @@ impl<D: Disk> Writer<D> {
     ///
     /// It answers `NumberLimit` exactly where the new segment would have the number 2^62, before anything is changed.
     /// Where it is refused the disk comes back, and files may have been removed or made. Where the log was empty no open
-    /// file that a crash may leave has a record.
+    /// file that a crash may leave has a record; where there was no file a crash leaves at most one.
     pub fn new(
         alloc: Global,
         disk: D,
@@ -99,11 +99,16 @@ impl<D: Disk> Writer<D> {
             → Within D.moment D.left_since disk e.disk (λ c. Spells (entries c) log)) }
         ensures newest { IfOk result (λ w. IsTrue (D.tells disk) → IsSynced D.reads D.may_leave w.disk (found.now.greatest + 1)) }
 
-        // Where the log was empty, all open files of each image are its segments, and have no record.
+        // Where the log was empty, all open files of each image are its segments, and have no record. Where there was no
+        // file there is at most one.
         ensures whole { IfOk result (λ w. IsTrue (D.tells disk) → IsWellOpened D.reads D.may_leave disk → WasEmpty D.reads disk
-            → Within D.moment D.left_since disk w.disk (λ c. HoldsAll (entries c) [])) }
+            → Within D.moment D.left_since disk w.disk (λ c. HoldsLog (LeftNoFile D.may_leave disk) 1 (entries c) [])) }
         ensures whole_refused { IfErr result (λ e. IsTrue (D.tells disk) → IsWellOpened D.reads D.may_leave disk → WasEmpty D.reads disk
-            → Within D.moment D.left_since disk e.disk (λ c. HoldsAll (entries c) [])) }
+            → Within D.moment D.left_since disk e.disk (λ c. HoldsLog (LeftNoFile D.may_leave disk) 1 (entries c) [])) }
+
+        // Where there was no file, none is half-made afterwards.
+        ensures whole_durable { IfOk result (λ w. IsTrue (D.tells disk) → IsWellOpened D.reads D.may_leave disk → WasEmpty D.reads disk
+            → (c : Image) → D.may_leave w.disk c → HoldsLog (LeftNoFile D.may_leave disk) 0 (entries c) []) }
 
         ensures limit { IfErr result (λ e. (number : ℕ) → e.fault ≡ NumberLimit number → (number ≡ 2 ^ 62) × (found.now.greatest + 1 ≡ number) × (e.disk ≡ disk)) }
         ensures not_limit { IsOk result → found.now.greatest + 1 < 2 ^ 62 }
@@ -245,7 +250,8 @@ impl<D: Disk> Writer<D> {
     ///
     /// Once it answers Ok every record that it counts is durable. Where it is refused with `Disk`, or with `Memory` while
     /// it wrote, records may be durable or not, and the writer writes no more. Where the log was empty at the opening, all
-    /// open files that a crash may leave are its segments, from LSN 1 on.
+    /// open files that a crash may leave are its segments, from LSN 1 on; where there was no file, their numbers are those
+    /// from 1 on, at most the newest is half-made, and each but the newest has a record.
     pub fn write_group(&mut self, alloc: Global, limit: u32) -> Result<u32, WriteFault>
         requires { (1 ≤ limit) × (limit ≤ 256) }
 
@@ -267,11 +273,12 @@ impl<D: Disk> Writer<D> {
             (c : Image) → D.may_leave self.new.disk c → Spells (entries c) (log_up_to self.new.synced log))) }
         ensures newest { OnOk result (IsTrue (D.tells self.old.disk) → IsSynced D.reads D.may_leave self.new.disk (number_of_newest self.new.segments)) }
 
-        // Where the log was empty at the opening, all open files are its segments, from LSN 1 on.
+        // Where the log was empty at the opening, all open files are its segments, from LSN 1 on. Where there was no file
+        // then, its files are in order: at most the newest is half-made, and none once a group was written.
         ensures whole { IsTrue (D.tells self.old.disk) → OfPlacedLog D.reads D.may_leave self.new (λ log. WasEmpty D.reads self.new.opened
-            → Within D.moment D.left_since self.old.disk self.new.disk (HoldsFrom self.old.synced log)) }
+            → Within D.moment D.left_since self.old.disk self.new.disk (HoldsFrom (LeftNoFile D.may_leave self.new.opened) self.old.synced log)) }
         ensures whole_durable { OnOk result (IsTrue (D.tells self.old.disk) → OfPlacedLog D.reads D.may_leave self.new (λ log. WasEmpty D.reads self.new.opened
-            → (c : Image) → D.may_leave self.new.disk c → HoldsAll (entries c) (take self.new.synced log.records))) }
+            → (c : Image) → D.may_leave self.new.disk c → HoldsLog (LeftNoFile D.may_leave self.new.opened) 0 (entries c) (take self.new.synced log.records))) }
 
         ensures told { D.tells self.new.disk ≡ D.tells self.old.disk }
         ensures time { Passes D.moment D.left_since self.old.disk self.new.disk }
@@ -291,7 +298,7 @@ impl<D: Disk> Writer<D> {
         ensures images { IsTrue (D.tells self.now.disk) → OfPlacedLog D.reads D.may_leave self.now (λ log.
             Within D.moment D.left_since self.now.disk self.now.disk (SpellsFrom self.now.synced log)) }
         ensures whole { IsTrue (D.tells self.now.disk) → OfPlacedLog D.reads D.may_leave self.now (λ log. WasEmpty D.reads self.now.opened
-            → Within D.moment D.left_since self.now.disk self.now.disk (HoldsFrom self.now.synced log)) }
+            → Within D.moment D.left_since self.now.disk self.now.disk (HoldsFrom (LeftNoFile D.may_leave self.now.opened) self.now.synced log)) }
     {
         match self.ended {
             None => Ok(()),
@@ -326,9 +333,9 @@ impl<D: Disk> Writer<D> {
         ensures durable { OnOk result (IsTrue (D.tells self.old.disk) → OfPlacedLog D.reads D.may_leave self.new (λ log.
             (c : Image) → D.may_leave self.new.disk c → Spells (entries c) (log_up_to self.new.synced log))) }
         ensures whole { IsTrue (D.tells self.old.disk) → OfPlacedLog D.reads D.may_leave self.new (λ log. WasEmpty D.reads self.new.opened
-            → Within D.moment D.left_since self.old.disk self.new.disk (HoldsFrom self.old.synced log)) }
+            → Within D.moment D.left_since self.old.disk self.new.disk (HoldsFrom (LeftNoFile D.may_leave self.new.opened) self.old.synced log)) }
         ensures whole_durable { OnOk result (IsTrue (D.tells self.old.disk) → OfPlacedLog D.reads D.may_leave self.new (λ log. WasEmpty D.reads self.new.opened
-            → (c : Image) → D.may_leave self.new.disk c → HoldsAll (entries c) (take self.new.synced log.records))) }
+            → (c : Image) → D.may_leave self.new.disk c → HoldsLog (LeftNoFile D.may_leave self.new.opened) 0 (entries c) (take self.new.synced log.records))) }
         ensures newest { OnOk result (IsTrue (D.tells self.old.disk) → IsSynced D.reads D.may_leave self.new.disk (number_of_newest self.new.segments)) }
         ensures told { D.tells self.new.disk ≡ D.tells self.old.disk }
         ensures time { Passes D.moment D.left_since self.old.disk self.new.disk }
@@ -372,9 +379,9 @@ impl<D: Disk> Writer<D> {
         ensures durable { OnOk result (IsTrue (D.tells self.old.disk) → OfPlacedLog D.reads D.may_leave self.new (λ log.
             (c : Image) → D.may_leave self.new.disk c → Spells (entries c) (log_up_to self.new.synced log))) }
         ensures whole { IsTrue (D.tells self.old.disk) → OfPlacedLog D.reads D.may_leave self.new (λ log. WasEmpty D.reads self.new.opened
-            → Within D.moment D.left_since self.old.disk self.new.disk (HoldsFrom self.old.synced log)) }
+            → Within D.moment D.left_since self.old.disk self.new.disk (HoldsFrom (LeftNoFile D.may_leave self.new.opened) self.old.synced log)) }
         ensures whole_durable { OnOk result (IsTrue (D.tells self.old.disk) → OfPlacedLog D.reads D.may_leave self.new (λ log. WasEmpty D.reads self.new.opened
-            → (c : Image) → D.may_leave self.new.disk c → HoldsAll (entries c) (take self.new.synced log.records))) }
+            → (c : Image) → D.may_leave self.new.disk c → HoldsLog (LeftNoFile D.may_leave self.new.opened) 0 (entries c) (take self.new.synced log.records))) }
         ensures newest { OnOk result (IsTrue (D.tells self.old.disk) → IsSynced D.reads D.may_leave self.new.disk (number_of_newest self.new.segments)) }
         ensures told { D.tells self.new.disk ≡ D.tells self.old.disk }
         ensures time { Passes D.moment D.left_since self.old.disk self.new.disk }

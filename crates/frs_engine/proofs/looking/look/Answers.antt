@@ -6,6 +6,7 @@ use Rattle.frs_text.specs.declared.plan.PlainPlan.TheVariants.{Stat}
 use Rattle.frs_engine.specs.declared.looking.Finding.{Finding}
 use Rattle.frs_engine.specs.Looks.{refusal_status, finding_status, finding_text, IsSaid}
 use Rattle.frs_engine.proofs.Findings.{IsToldAs, maps_status, numbers_status, refused_as, given_as, numbers_said}
+use Rattle.frs_engine.proofs.Looked.{not_looked}
 use Rattle.frs_engine.proofs.looking.look.Goals as goal
 
 pub returns-in-Recover-clause-refused : goal.returns-in-Recover-clause-refused
@@ -37,3 +38,18 @@ pub returns-in-Stat-clause-only : goal.returns-in-Stat-clause-only
 returns-in-Stat-clause-only g c told other segments log by =
     subst (λ (n : ℕ). IsToldAs 0 n) (sym (ap finding_status c.numbers.ensures ∙ numbers_status c.recover-in-Stat.result))
     (given_as (IsRecovered (entries (g.D.Disk.reads c.args.disk.now)) segments log) c.recover-in-Stat.result (c.recover-in-Stat.ensures.only told segments log by))
+
+pub returns-in-Recover-clause-looked : goal.returns-in-Recover-clause-looked
+returns-in-Recover-clause-looked g c =
+    let e = c.recover.ensures in
+    record { seen = e.seen; pending = e.pending; crash = e.crash; within = e.within }
+
+pub returns-in-Stat-clause-looked : goal.returns-in-Stat-clause-looked
+returns-in-Stat-clause-looked g c =
+    let e = c.recover-in-Stat.ensures in
+    record { seen = e.seen; pending = e.pending; crash = e.crash; within = e.within }
+
+pub returns-in-Compact-clause-looked : goal.returns-in-Compact-clause-looked
+returns-in-Compact-clause-looked g c =
+    let d = g.D.Disk in
+    not_looked d.reads d.may_leave d.moment d.left_since d.removing c.args.disk.now (g.met.D.Disk.only_now c.args.disk.now)

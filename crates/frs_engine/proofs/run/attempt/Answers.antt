@@ -4,7 +4,7 @@ use Rattle.frs_engine.specs.Causes.{IsUnread, bytes_of_plan}
 use Rattle.frs_engine.specs.Endings.{status_of}
 use Rattle.frs_engine.specs.Promise.{has_puts_and_gets}
 use Rattle.frs_disk.specs.Disk.{Rose}
-use Rattle.frs_engine.proofs.Joining.{passes_none}
+use Rattle.frs_disk.proofs.Moments.{passes_none}
 use Rattle.frs_engine.proofs.Looked.{not_looked}
 use Rattle.frs_engine.proofs.Nothing.{nothing_survives}
 use Rattle.frs_engine.proofs.Reasons.{unread_cause, unread_not_zero, unread_others, run_cause, run_unread, no_others}

@@ -1,8 +1,7 @@
 use Rattle.std.proofs.Common.{◌≡◌, List, ap, sym, subst, IsTrue}
-use Rattle.frs_disk.specs.Disk.{Within}
+use Rattle.frs_disk.specs.Disk.{Within, LeftNoFile}
 use Rattle.frs_disk.proofs.Moments.{within_join}
 use Rattle.frs_history.specs.Machine.{Changes}
-use Rattle.frs_engine.specs.Journal.{LeftNoFile}
 use Rattle.frs_engine.specs.Promise.{commits_of_run, Shows, ShowsAcked}
 use Rattle.frs_engine.specs.Session.{commits_so_far}
 use Rattle.frs_engine.proofs.Running.{none_shown}

@@ -4,7 +4,8 @@ use Rattle.frs_disk.specs.Disk.{bytes_at}
 use Rattle.frs_disk.proofs.Moments.{passes_join}
 use Rattle.frs_types.specs.declared.record.Record.{Record}
 use Rattle.frs_segment.specs.declared.layout.ChunkPlace.{ChunkPlace}
-use Rattle.frs_recovery.proofs.Quiet.{no_time, both_within}
+use Rattle.frs_disk.proofs.Moments.{passes_none}
+use Rattle.frs_recovery.proofs.Quiet.{both_within}
 use Rattle.frs_recovery.proofs.Told.{err_is}
 use Rattle.frs_recovery.specs.Looking.{IsOutside}
 use Rattle.frs_recovery.proofs.Places.{IsReadBack, none_read, one_more, chained, last_apart, read_at, chunk_there, segment_read}
@@ -24,7 +25,7 @@ loop-left-init g c =
       seen = refl;
       pending = λ n is. is;
       crash = λ x left. left;
-      time = no_time d.moment d.left_since c.args.disk.now;
+      time = passes_none d.moment d.left_since c.args.disk.now;
       within = g.met.D.Disk.only_now c.args.disk.now;
       faults = refl;
     }

@@ -7,7 +7,8 @@ use Rattle.std.proofs.lemmas.Iterator.Adapters.{YieldsList-from_rev_slice}
 use Rattle.std.proofs.lemmas.Iterator.Consumers.{YieldsList-turn, YieldsList-end}
 use Rattle.frs_disk.specs.Disk.{Image, IsNumber}
 use Rattle.frs_disk.proofs.Moments.{passes_join}
-use Rattle.frs_recovery.proofs.Quiet.{no_time, both_within}
+use Rattle.frs_disk.proofs.Moments.{passes_none}
+use Rattle.frs_recovery.proofs.Quiet.{both_within}
 use Rattle.frs_recovery.proofs.Descent.{set_out}
 use Rattle.frs_recovery.specs.declared.fault.RecoverFault.{RecoverFault}
 use Rattle.frs_recovery.specs.Faults.{IsCauseIn}
@@ -26,7 +27,7 @@ loop-number-init g c =
       seen = refl;
       pending = λ n is. is;
       crash = λ x left. left;
-      time = no_time d.moment d.left_since c.args.disk.now;
+      time = passes_none d.moment d.left_since c.args.disk.now;
       within = λ x left. g.met.D.Disk.only_now c.args.disk.now x left;
       faults = refl;
     }

@@ -2,7 +2,8 @@ use Rattle.std.proofs.Common.{◌∙◌, inl, inr, ⊎_elim, ℕ, IsTrue, Contai
 use Rattle.std.specs.Prelude.{slice_index}
 use Rattle.std.proofs.lemmas.List.Elements.{Contains-get_or}
 use Rattle.frs_disk.proofs.Moments.{passes_join}
-use Rattle.frs_writer.proofs.Thinning.{thin_none, thin_more, still_there, gone_more, all_gone, no_time, thin_start, thin_step}
+use Rattle.frs_disk.proofs.Moments.{passes_none}
+use Rattle.frs_writer.proofs.Thinning.{thin_none, thin_more, still_there, gone_more, all_gone, thin_start, thin_step}
 use Rattle.frs_writer.proofs.opening.remove_all.Goals as goal
 
 pub loop-number-init : goal.loop-number-init
@@ -15,7 +16,7 @@ loop-number-init g c =
       images = thin_start d.moment d.left_since d.may_leave c.args.numbers.now c.args.disk.now (g.met.D.Disk.only_now c.args.disk.now);
       pending = λ n is. inl is;
       told = refl;
-      time = no_time d.moment d.left_since d.may_leave c.args.numbers.now c.args.disk.now;
+      time = passes_none d.moment d.left_since c.args.disk.now;
       faults = refl;
     }
 

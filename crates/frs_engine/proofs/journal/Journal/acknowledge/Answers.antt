@@ -1,4 +1,4 @@
-use Rattle.std.proofs.Common.{arith, sym, subst}
+use Rattle.std.proofs.Common.{◌∙◌, ℕ, List, ap, set, arith, sym, subst}
 use Rattle.frs_slots.specs.Views.{AreOfOneRing}
 use Rattle.frs_writer.specs.Writer.{WriterView}
 use Rattle.frs_engine.proofs.Journals.{acknowledged}
@@ -15,3 +15,6 @@ returns-clause-written g c records is =
         drawn = is.drawn.drawn;
       };
     }
+
+pub returns-clause-noted : goal.returns-clause-noted
+returns-clause-noted g c = ap (λ (w : WriterView _). w.noted) c.in-Ok.ensures.noted ∙ ap (λ (ns : List ℕ). set ns 0 c.args.lsn) c.requires.1.written.noted.1

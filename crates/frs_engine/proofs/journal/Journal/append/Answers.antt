@@ -2,14 +2,15 @@ use Rattle.std.proofs.Common.{◌≡◌, ◌++◌, ◌∷◌, [], ◌∙◌, inl
 use Rattle.std.proofs.lemmas.List.{length-map}
 use Rattle.frs_frame.specs.Spelling.{spelling}
 use Rattle.frs_engine.proofs.Journals.{placed_before}
+use Rattle.frs_engine.proofs.Showing.{holds_more}
 use Rattle.frs_engine.proofs.journal.Journal.append.Goals as goal
 
 pub returns-in_err-slip-clause-images : goal.returns-in_err-slip-clause-images
 returns-in_err-slip-clause-images g c records r is framed placed told none x left =
     let d = g.D.Disk in
     let old = c.args.self.now.writer.disk in
-    inl (is.written.holds told none (placed_before records r placed) x
-    (g.met.D.Disk.only_now old x (subst (λ e. d.left_since e (d.moment old) x) c.draw.ensures.disk.0 left)))
+    inl (holds_more (is.written.holds told none (placed_before records r placed) x
+    (g.met.D.Disk.only_now old x (subst (λ e. d.left_since e (d.moment old) x) c.draw.ensures.disk.0 left))))
 
 pub write-requires-clause-published : goal.write-requires-clause-published
 write-requires-clause-published g c =

@@ -1,14 +1,13 @@
 use Rattle.std.proofs.Common.{◌≡◌, ◌+◌, ◌++◌, ◌∷◌, [], ◌∙◌, IsTrue, sym, ap, subst, arith}
-use Rattle.std.specs.FinMap.{entries}
-use Rattle.frs_disk.specs.Disk.{Image}
 use Rattle.frs_segment.specs.Stores.{IsFound}
 use Rattle.frs_segment.specs.Scanning.{described}
 use Rattle.frs_slots.specs.Views.{AreOfOneRing}
 use Rattle.frs_writer.specs.Places.{number_of_newest}
 use Rattle.frs_writer.specs.Shown.{new_segment}
+use Rattle.frs_disk.specs.Disk.{LeftNoFile}
 use Rattle.frs_writer.specs.Writer.{WriterView}
-use Rattle.frs_engine.specs.Journal.{LeftNoFile, log_of}
-use Rattle.frs_engine.proofs.Nothing.{entries_empty}
+use Rattle.frs_engine.specs.Journal.{log_of}
+use Rattle.frs_disk.proofs.NoFiles.{no_entries}
 use Rattle.frs_engine.proofs.Journals.{well_opened, was_empty, empty_holds}
 use Rattle.frs_engine.proofs.journal.Journal.open.Goals as goal
 
@@ -17,17 +16,17 @@ returns-in_default-clause-images_refused g c told none x left = empty_holds x (n
 
 pub new-requires-clause-found : goal.new-requires-clause-found
 new-requires-clause-found g c told =
-    ([], log_of [], subst (λ files. IsFound files [] (log_of []) c.nothing_found-found.result) (sym (ap (λ (i : Image). entries i) (c.requires.empty told) ∙ entries_empty)) c.nothing_found-found.ensures)
+    ([], log_of [], subst (λ files. IsFound files [] (log_of []) c.nothing_found-found.result) (sym (no_entries (g.D.Disk.reads c.args.disk) (c.requires.empty told))) c.nothing_found-found.ensures)
 
 pub returns-in-Ok-new-clause-images : goal.returns-in-Ok-new-clause-images
-returns-in-Ok-new-clause-images g c told none =
+returns-in-Ok-new-clause-images g c told none x left =
     let d = g.D.Disk in
-    c.in-Ok-new.ensures.whole told (well_opened d.tells d.reads d.may_leave c.args.disk (c.requires.empty told) none) (was_empty d.tells d.reads d.may_leave c.args.disk (c.requires.empty told))
+    (c.in-Ok-new.ensures.whole told (well_opened d.tells d.reads d.may_leave c.args.disk (c.requires.empty told) none) (was_empty d.tells d.reads d.may_leave c.args.disk (c.requires.empty told)) x left).1 none
 
 pub returns-in-Err-clause-images_refused : goal.returns-in-Err-clause-images_refused
-returns-in-Err-clause-images_refused g c told none =
+returns-in-Err-clause-images_refused g c told none x left =
     let d = g.D.Disk in
-    c.in-Err.ensures.whole_refused told (well_opened d.tells d.reads d.may_leave c.args.disk (c.requires.empty told) none) (was_empty d.tells d.reads d.may_leave c.args.disk (c.requires.empty told))
+    (c.in-Err.ensures.whole_refused told (well_opened d.tells d.reads d.may_leave c.args.disk (c.requires.empty told) none) (was_empty d.tells d.reads d.may_leave c.args.disk (c.requires.empty told)) x left).1 none
 
 pub returns-in-Ok-new-clause-written : goal.returns-in-Ok-new-clause-written
 returns-in-Ok-new-clause-written g c =
@@ -54,7 +53,9 @@ returns-in-Ok-new-clause-written g c =
         opened = λ told. ap d.reads is.0 ∙ c.requires.empty (subst (λ e. IsTrue (d.tells e)) is.0 told);
         holds = λ told none placed x left.
             let told_before : IsTrue (d.tells c.args.disk) = subst IsTrue c.in-Ok-new.ensures.told.0 told in
-            returns-in-Ok-new-clause-images g c told_before (subst (λ e. LeftNoFile d.may_leave e) is.0 none) x (g.met.D.Disk.counts_now w.disk _ x c.in-Ok-new.ensures.time.0.later left);
+            let none_before : LeftNoFile d.may_leave c.args.disk = subst (λ e. LeftNoFile d.may_leave e) is.0 none in
+            let empty = c.requires.empty told_before in
+            (c.in-Ok-new.ensures.whole_durable told_before (well_opened d.tells d.reads d.may_leave c.args.disk empty none_before) (was_empty d.tells d.reads d.may_leave c.args.disk empty) x left).1 none_before;
       };
       drawn = record {
         one_ring = subst (λ t. AreOfOneRing c.in-Ok.drawer t) (sym is.1) c.in-Ok.ensures.one_ring;

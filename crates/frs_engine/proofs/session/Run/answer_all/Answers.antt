@@ -1,10 +1,11 @@
 use Rattle.std.proofs.Common.{◌≡◌, ◌∙◌, List, ap, sym, subst, length, arith, refl, IsTrue}
 use Rattle.frs_disk.proofs.Moments.{passes_join}
 use Rattle.frs_history.specs.declared.event.Ack.{Ack}
-use Rattle.frs_engine.specs.Journal.{LeftNoFile}
+use Rattle.frs_disk.specs.Disk.{LeftNoFile}
 use Rattle.frs_engine.specs.Promise.{ShowsAcked}
 use Rattle.frs_engine.specs.Session.{commits_so_far}
-use Rattle.frs_engine.proofs.Joining.{extends_none, extends_join, passes_none, shown_join}
+use Rattle.frs_disk.proofs.Moments.{passes_none}
+use Rattle.frs_engine.proofs.Joining.{extends_none, extends_join, shown_join}
 use Rattle.frs_engine.proofs.Running.{ready_now}
 use Rattle.frs_engine.proofs.Showing.{known_acked}
 use Rattle.frs_engine.proofs.session.Run.answer_all.Goals as goal

@@ -1,6 +1,5 @@
 use Rattle.std.proofs.Common.{◌≡◌, ◌+◌, ◌-◌, ◌≤◌, length, IsTrue}
-use Rattle.frs_disk.specs.Disk.{Passes, Within}
-use Rattle.frs_engine.specs.Journal.{LeftNoFile}
+use Rattle.frs_disk.specs.Disk.{Passes, Within, LeftNoFile}
 use Rattle.frs_engine.specs.Promise.{Shows}
 use Rattle.frs_engine.specs.Session.{IsReady, HasOneMark, commits_so_far, Extends}
 use Rattle.frs_engine.proofs.session.Run.answer_all.Given as goal

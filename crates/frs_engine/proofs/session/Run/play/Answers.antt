@@ -1,8 +1,7 @@
 use Rattle.std.proofs.Common.{◌∙◌, sym, subst, arith, IsTrue}
 use Rattle.std.proofs.lemmas.Result.{on_ok_weaker}
-use Rattle.frs_disk.specs.Disk.{Passes, Within}
+use Rattle.frs_disk.specs.Disk.{Passes, Within, LeftNoFile}
 use Rattle.frs_disk.proofs.Moments.{passes_join}
-use Rattle.frs_engine.specs.Journal.{LeftNoFile}
 use Rattle.frs_engine.specs.Promise.{Shows}
 use Rattle.frs_engine.specs.Session.{commits_so_far}
 use Rattle.frs_engine.proofs.Joining.{on_ok_both, all_shown, shown_join, extends_none}

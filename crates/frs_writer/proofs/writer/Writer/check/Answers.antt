@@ -1,6 +1,6 @@
 use Rattle.std.proofs.Common.{subst, IsTrue}
 use Rattle.frs_types.specs.Records.{Log, Placed}
-use Rattle.frs_disk.specs.Disk.{Image}
+use Rattle.frs_disk.specs.Disk.{Image, LeftNoFile}
 use Rattle.frs_writer.specs.Inside.{seen}
 use Rattle.frs_writer.specs.Writer.{WriterView, IsLog, WasEmpty, IsWellOpened}
 use Rattle.frs_writer.specs.Writing.{SpellsFrom, HoldsFrom}
@@ -33,7 +33,7 @@ pub returns-in-None-clause-whole : goal.returns-in-None-clause-whole
 returns-in-None-clause-whole g c =
     let d = g.D.Disk in
     subst (λ (v : WriterView g.row.D.Denot). IsTrue (d.tells v.disk) → IsWellOpened d.reads d.may_leave v.opened → (log : Log) → IsLog d.reads v log → Placed log → WasEmpty d.reads v.opened
-    → (x : Image) → d.left_since v.disk (d.moment v.disk) x → HoldsFrom v.synced log x) c.self.view_is
+    → (x : Image) → d.left_since v.disk (d.moment v.disk) x → HoldsFrom (LeftNoFile d.may_leave v.opened) v.synced log x) c.self.view_is
     (λ told well log is_log placed empty.
     unchanged_whole d.tells d.reads d.may_leave d.removing (seen c.self.inside) c.self.invariant.kept_is told well log is_log placed empty d.moment d.left_since g.met.D.Disk.only_now)
 
@@ -41,7 +41,7 @@ pub returns-in-Some-Failed-clause-whole : goal.returns-in-Some-Failed-clause-who
 returns-in-Some-Failed-clause-whole g c =
     let d = g.D.Disk in
     subst (λ (v : WriterView g.row.D.Denot). IsTrue (d.tells v.disk) → IsWellOpened d.reads d.may_leave v.opened → (log : Log) → IsLog d.reads v log → Placed log → WasEmpty d.reads v.opened
-    → (x : Image) → d.left_since v.disk (d.moment v.disk) x → HoldsFrom v.synced log x) c.self.view_is
+    → (x : Image) → d.left_since v.disk (d.moment v.disk) x → HoldsFrom (LeftNoFile d.may_leave v.opened) v.synced log x) c.self.view_is
     (λ told well log is_log placed empty.
     unchanged_whole d.tells d.reads d.may_leave d.removing (seen c.self.inside) c.self.invariant.kept_is told well log is_log placed empty d.moment d.left_since g.met.D.Disk.only_now)
 
@@ -49,6 +49,6 @@ pub returns-in-Some-Memory-clause-whole : goal.returns-in-Some-Memory-clause-who
 returns-in-Some-Memory-clause-whole g c =
     let d = g.D.Disk in
     subst (λ (v : WriterView g.row.D.Denot). IsTrue (d.tells v.disk) → IsWellOpened d.reads d.may_leave v.opened → (log : Log) → IsLog d.reads v log → Placed log → WasEmpty d.reads v.opened
-    → (x : Image) → d.left_since v.disk (d.moment v.disk) x → HoldsFrom v.synced log x) c.self.view_is
+    → (x : Image) → d.left_since v.disk (d.moment v.disk) x → HoldsFrom (LeftNoFile d.may_leave v.opened) v.synced log x) c.self.view_is
     (λ told well log is_log placed empty.
     unchanged_whole d.tells d.reads d.may_leave d.removing (seen c.self.inside) c.self.invariant.kept_is told well log is_log placed empty d.moment d.left_since g.met.D.Disk.only_now)

@@ -2,7 +2,8 @@ use Rattle.std.proofs.Common.{◌≡◌, ◌∙◌, ◌<◌, ◌+◌, ℕ, [], I
 use Rattle.std.specs.Prelude.{All}
 use Rattle.std.specs.List.Sorted.{IsStrictlyIncreasing}
 use Rattle.std.specs.FinMap.{get, entries}
-use Rattle.frs_writer.proofs.Beginning.{left_spells, images_spell, kept_begun, none_failed}
+use Rattle.frs_disk.proofs.NoFiles.{no_entries}
+use Rattle.frs_writer.proofs.Beginning.{left_spells, images_spell, images_whole, kept_begun, durable_none, none_failed}
 use Rattle.frs_writer.proofs.Found.{found_half, found_rising, found_above, found_none_removed}
 use Rattle.frs_writer.proofs.Whole.{spelled_none}
 use Rattle.frs_writer.proofs.writer.Writer.new.Goals as goal
@@ -12,14 +13,16 @@ returns-then-number-eq-END-clause-images_refused g c = λ told well log spelled 
     left_spells g.D.Disk.reads g.D.Disk.may_leave c.args.disk well log spelled x (g.met.D.Disk.only_now c.args.disk x left)
 
 pub returns-then-number-eq-END-clause-whole_refused : goal.returns-then-number-eq-END-clause-whole_refused
-returns-then-number-eq-END-clause-whole_refused g c = λ told well empty x left. spelled_none (entries x) (returns-then-number-eq-END-clause-images_refused g c told well (record { first = 1; records = [] }) empty x left)
+returns-then-number-eq-END-clause-whole_refused g c = λ told well empty x left.
+    spelled_none (entries x) (λ none. no_entries x (none x (g.met.D.Disk.only_now c.args.disk x left))) (returns-then-number-eq-END-clause-images_refused g c told well (record { first = 1; records = [] }) empty x left)
 
 pub returns-in_default-clause-images_refused : goal.returns-in_default-clause-images_refused
 returns-in_default-clause-images_refused g c = λ told well log spelled x left.
     left_spells g.D.Disk.reads g.D.Disk.may_leave c.args.disk well log spelled x (g.met.D.Disk.only_now c.args.disk x left)
 
 pub returns-in_default-clause-whole_refused : goal.returns-in_default-clause-whole_refused
-returns-in_default-clause-whole_refused g c = λ told well empty x left. spelled_none (entries x) (returns-in_default-clause-images_refused g c told well (record { first = 1; records = [] }) empty x left)
+returns-in_default-clause-whole_refused g c = λ told well empty x left.
+    spelled_none (entries x) (λ none. no_entries x (none x (g.met.D.Disk.only_now c.args.disk x left))) (returns-in_default-clause-images_refused g c told well (record { first = 1; records = [] }) empty x left)
 
 pub open_next-requires-clause-there : goal.open_next-requires-clause-there
 open_next-requires-clause-there g c = λ told.
@@ -46,12 +49,16 @@ open_next-requires-clause-not_removed g c = λ told.
 pub returns-in-Err-clause-images_refused : goal.returns-in-Err-clause-images_refused
 returns-in-Err-clause-images_refused g c =
     let d = g.D.Disk in
-    images_spell d.tells d.reads d.may_leave d.removing d.moment d.left_since g.met.D.Disk.counts_now g.met.D.Disk.stays_absent c.one_log.ensures.log
+    images_spell d.tells d.reads d.may_leave d.removing d.moment d.left_since g.met.D.Disk.as_read g.met.D.Disk.counts_now g.met.D.Disk.stays_absent c.one_log.ensures.log
     c.args.disk c.open_next.new.disk c.args.found.now c.requires.found c.requires.pending c.requires.greatest c.if-number-eq-END.false c.numbers.result.now c.numbers.ensures
     c.args.taker c.requires.taker c.next-first.result c.next-first.ensures.next c.next-first.ensures.first c.open_next.ensures.images
 
 pub returns-in-Err-clause-whole_refused : goal.returns-in-Err-clause-whole_refused
-returns-in-Err-clause-whole_refused g c = λ told well empty x left. spelled_none (entries x) (returns-in-Err-clause-images_refused g c told well (record { first = 1; records = [] }) empty x left)
+returns-in-Err-clause-whole_refused g c =
+    let d = g.D.Disk in
+    images_whole d.tells d.reads d.may_leave d.removing d.moment d.left_since g.met.D.Disk.as_read g.met.D.Disk.counts_now g.met.D.Disk.stays_absent c.one_log.ensures.log
+    c.args.disk c.open_next.new.disk c.args.found.now c.requires.found c.requires.pending c.requires.greatest c.if-number-eq-END.false c.numbers.result.now c.numbers.ensures
+    c.args.taker c.requires.taker c.next-first.result c.next-first.ensures.next c.next-first.ensures.first c.open_next.ensures.images
 
 pub invariant_of-result : goal.invariant_of-result
 invariant_of-result g c =
@@ -59,7 +66,7 @@ invariant_of-result g c =
     let opened : c.of-opened.result.value ≡ c.args.disk = c.of-opened.ensures in
     let parts = c.in-Ok.parts in
     record {
-      kept_is = kept_begun d.tells d.reads d.may_leave d.removing d.moment d.left_since g.met.D.Disk.counts_now g.met.D.Disk.stays_absent c.one_log.ensures.log
+      kept_is = kept_begun d.tells d.reads d.may_leave d.removing d.moment d.left_since g.met.D.Disk.as_read g.met.D.Disk.counts_now g.met.D.Disk.stays_absent c.one_log.ensures.log
           c.args.disk c.open_next.new.disk c.args.found.now c.requires.found c.requires.pending c.requires.greatest c.if-number-eq-END.false c.numbers.result.now c.numbers.ensures
           c.args.taker c.requires.taker c.next-first.result c.next-first.ensures.next c.next-first.ensures.first c.open_next.ensures.images
           c.args.clients c.requires.clients c.open_next.ensures.time.later c.open_next.ensures.told c.in_default-open_next.ensures.durable c.in_default-open_next.ensures.made
@@ -72,9 +79,22 @@ invariant_of-result g c =
 pub returns-clause-images : goal.returns-clause-images
 returns-clause-images g c =
     let d = g.D.Disk in
-    images_spell d.tells d.reads d.may_leave d.removing d.moment d.left_since g.met.D.Disk.counts_now g.met.D.Disk.stays_absent c.one_log.ensures.log
+    images_spell d.tells d.reads d.may_leave d.removing d.moment d.left_since g.met.D.Disk.as_read g.met.D.Disk.counts_now g.met.D.Disk.stays_absent c.one_log.ensures.log
     c.args.disk c.open_next.new.disk c.args.found.now c.requires.found c.requires.pending c.requires.greatest c.if-number-eq-END.false c.numbers.result.now c.numbers.ensures
     c.args.taker c.requires.taker c.next-first.result c.next-first.ensures.next c.next-first.ensures.first c.open_next.ensures.images
 
 pub returns-clause-whole : goal.returns-clause-whole
-returns-clause-whole g c = λ told well empty x left. spelled_none (entries x) (returns-clause-images g c told well (record { first = 1; records = [] }) empty x left)
+returns-clause-whole g c =
+    let d = g.D.Disk in
+    images_whole d.tells d.reads d.may_leave d.removing d.moment d.left_since g.met.D.Disk.as_read g.met.D.Disk.counts_now g.met.D.Disk.stays_absent c.one_log.ensures.log
+    c.args.disk c.open_next.new.disk c.args.found.now c.requires.found c.requires.pending c.requires.greatest c.if-number-eq-END.false c.numbers.result.now c.numbers.ensures
+    c.args.taker c.requires.taker c.next-first.result c.next-first.ensures.next c.next-first.ensures.first c.open_next.ensures.images
+
+pub returns-clause-whole_durable : goal.returns-clause-whole_durable
+returns-clause-whole_durable g c =
+    let d = g.D.Disk in
+    durable_none d.tells d.reads d.may_leave d.removing d.moment d.left_since g.met.D.Disk.as_read g.met.D.Disk.counts_now g.met.D.Disk.stays_absent c.one_log.ensures.log
+    c.args.disk c.open_next.new.disk c.args.found.now c.requires.found c.requires.pending c.requires.greatest c.if-number-eq-END.false c.numbers.result.now c.numbers.ensures
+    c.args.taker c.requires.taker c.next-first.result c.next-first.ensures.next c.next-first.ensures.first c.open_next.ensures.images
+    c.args.clients c.requires.clients c.open_next.ensures.time.later c.open_next.ensures.told c.in_default-open_next.ensures.durable c.in_default-open_next.ensures.made
+    c.open_next.ensures.others c.open_next.ensures.pending

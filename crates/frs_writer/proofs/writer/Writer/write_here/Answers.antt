@@ -2,7 +2,7 @@ use Rattle.std.proofs.Common.{◌≡◌, ℕ, ◌+◌, ◌-◌, false, List, [],
 use Rattle.std.proofs.lemmas.List.{set-get_or}
 use Rattle.std.specs.FinMap.{entries}
 use Rattle.frs_types.specs.Records.{Log, Placed}
-use Rattle.frs_disk.specs.Disk.{Image, IsSynced}
+use Rattle.frs_disk.specs.Disk.{Image, IsSynced, LeftNoFile}
 use Rattle.frs_segment.specs.declared.layout.Segment.{Segment as Described}
 use Rattle.frs_segment.specs.Segments.{Spells}
 use Rattle.frs_segment.specs.Stores.{log_up_to}
@@ -11,7 +11,7 @@ use Rattle.frs_writer.specs.Holds.{IsKept}
 use Rattle.frs_writer.specs.Inside.{seen}
 use Rattle.frs_writer.specs.Writer.{WriterView, IsLog, WasEmpty, IsWellOpened}
 use Rattle.frs_writer.specs.Places.{number_of_newest}
-use Rattle.frs_writer.specs.Writing.{is_due, SpellsFrom, HoldsAll, HoldsFrom}
+use Rattle.frs_writer.specs.Writing.{is_due, SpellsFrom, HoldsLog, HoldsFrom}
 use Rattle.frs_writer.proofs.Segments.{taken_out, put_back}
 use Rattle.frs_writer.proofs.Spelled.{spells_from, durable_spells, newest_synced}
 use Rattle.frs_writer.proofs.Whole.{durable_whole, from_whole}
@@ -49,7 +49,7 @@ returns-in_err-places-clause-whole g c =
     let d = g.D.Disk in
     let old = c.self.invariant in
     subst (λ (v : WriterView g.row.D.Denot). IsTrue (d.tells v.disk) → IsWellOpened d.reads d.may_leave c.self.inside.opened.value → (log : Log) → IsLog d.reads (record (seen c.self.inside) { segments = set c.self.inside.segments.items (c.len-newest.result - 1) c.places_with_room.new.segment }) log → Placed log → WasEmpty d.reads c.self.inside.opened.value
-    → (x : Image) → d.left_since c.self.inside.disk (d.moment v.disk) x → HoldsFrom v.synced log x) c.self.view_is
+    → (x : Image) → d.left_since c.self.inside.disk (d.moment v.disk) x → HoldsFrom (LeftNoFile d.may_leave c.self.inside.opened.value) v.synced log x) c.self.view_is
     (λ told well log is_log placed empty x left.
     let l : IsLog d.reads (seen c.self.inside) log = record { base = is_log.base; spelled = is_log.spelled; taken = is_log.taken; bytes = is_log.bytes; is = is_log.is } in
     from_whole c.self.inside.synced log x
@@ -165,7 +165,7 @@ returns-in-Ok-clause-whole g c =
     let fine : c.self.inside.ended ≡ None = ap (λ (v : WriterView g.row.D.Denot). v.ended) c.self.view_is ∙ c.requires.fine in
     let here : is_due (seen c.self.inside) ≡ false = ap is_due c.self.view_is ∙ c.requires.here in
     subst (λ (v : WriterView g.row.D.Denot). IsTrue (d.tells v.disk) → IsWellOpened d.reads d.may_leave c.self.inside.opened.value → (log : Log) → IsLog d.reads (view-PutOk g c) log → Placed log → WasEmpty d.reads c.self.inside.opened.value
-    → (x : Image) → d.left_since c.put_group-written.new.disk (d.moment v.disk) x → HoldsFrom v.synced log x) c.self.view_is
+    → (x : Image) → d.left_since c.put_group-written.new.disk (d.moment v.disk) x → HoldsFrom (LeftNoFile d.may_leave c.self.inside.opened.value) v.synced log x) c.self.view_is
     (λ told well log is_log placed empty x left.
     from_whole c.self.inside.synced log x
     (put_images d.tells d.reads d.may_leave d.removing d.moment d.left_since g.met.D.Disk.as_read g.met.D.Disk.counts_now g.met.D.Disk.only_now (seen c.self.inside) old.kept_is fine
@@ -187,7 +187,7 @@ returns-in-Ok-clause-whole_durable g c =
     let d = g.D.Disk in
     let fine : c.self.inside.ended ≡ None = ap (λ (v : WriterView g.row.D.Denot). v.ended) c.self.view_is ∙ c.requires.fine in
     subst (λ (v : WriterView g.row.D.Denot). IsTrue (d.tells v.disk) → IsWellOpened d.reads d.may_leave c.self.inside.opened.value → (log : Log) → IsLog d.reads (view-PutOk g c) log → Placed log → WasEmpty d.reads c.self.inside.opened.value
-    → (x : Image) → d.may_leave c.put_group-written.new.disk x → HoldsAll (entries x) (take (c.self.inside.synced + c.from.result) log.records)) c.self.view_is
+    → (x : Image) → d.may_leave c.put_group-written.new.disk x → HoldsLog (LeftNoFile d.may_leave c.self.inside.opened.value) 0 (entries x) (take (c.self.inside.synced + c.from.result) log.records)) c.self.view_is
     (λ told well log is_log placed empty x left.
     durable_whole d.tells d.reads d.may_leave d.removing (view-PutOk g c) (invariant_of-self-in-Ok g c).kept_is (told-PutOk g c told) well log is_log placed empty fine x left)
 
@@ -284,7 +284,7 @@ returns-in-Err-clause-whole g c =
     let fine : c.self.inside.ended ≡ None = ap (λ (v : WriterView g.row.D.Denot). v.ended) c.self.view_is ∙ c.requires.fine in
     let here : is_due (seen c.self.inside) ≡ false = ap is_due c.self.view_is ∙ c.requires.here in
     subst (λ (v : WriterView g.row.D.Denot). IsTrue (d.tells v.disk) → IsWellOpened d.reads d.may_leave c.self.inside.opened.value → (log : Log) → IsLog d.reads (view-PutErr g c) log → Placed log → WasEmpty d.reads c.self.inside.opened.value
-    → (x : Image) → d.left_since c.put_group-written.new.disk (d.moment v.disk) x → HoldsFrom v.synced log x) c.self.view_is
+    → (x : Image) → d.left_since c.put_group-written.new.disk (d.moment v.disk) x → HoldsFrom (LeftNoFile d.may_leave c.self.inside.opened.value) v.synced log x) c.self.view_is
     (λ told well log is_log placed empty x left.
     from_whole c.self.inside.synced log x
     (put_images d.tells d.reads d.may_leave d.removing d.moment d.left_since g.met.D.Disk.as_read g.met.D.Disk.counts_now g.met.D.Disk.only_now (seen c.self.inside) old.kept_is fine

@@ -1,11 +1,9 @@
 use Rattle.std.proofs.Common.{◌≡◌, ℕ, ◌+◌, ◌-◌, ◌^◌, ◌<◌, ◌≤◌, true, List, [], ◌∷◌, ◌++◌, length, get_or, set, take, Option, Some, None, refl, sym, ◌∙◌, ap, subst, arith, length-append, IsTrue}
-use Rattle.std.specs.Prelude.{nat_lt}
-use Rattle.std.proofs.lemmas.Bool.{and_parts, ltb-true}
 use Rattle.std.proofs.lemmas.List.{get_or_at, set_at}
 use Rattle.std.specs.FinMap.{entries, get}
 use Rattle.frs_types.specs.Records.{Log, Placed}
 use Rattle.frs_disk.specs.declared.disk.Fault.{Fault}
-use Rattle.frs_disk.specs.Disk.{Image, AgreesElsewhere, SameElsewhere, IsSynced, Passes, Within}
+use Rattle.frs_disk.specs.Disk.{Image, AgreesElsewhere, SameElsewhere, IsSynced, Passes, Within, LeftNoFile}
 use Rattle.frs_segment.specs.Front.{IsInTheMaking, empty_segment}
 use Rattle.frs_segment.specs.declared.layout.ChunkPlace.{ChunkPlace}
 use Rattle.frs_segment.specs.declared.layout.Segment.{Segment as Described}
@@ -18,12 +16,12 @@ use Rattle.frs_writer.specs.Inside.{seen}
 use Rattle.frs_writer.specs.Places.{number_of_newest}
 use Rattle.frs_writer.specs.Shown.{new_segment}
 use Rattle.frs_writer.specs.Writer.{WriterView, IsLog, WasEmpty, IsWellOpened}
-use Rattle.frs_writer.specs.Writing.{is_due, rolled, SpellsFrom, HoldsAll, HoldsFrom}
+use Rattle.frs_writer.specs.Writing.{is_due, rolled, SpellsFrom, HoldsLog, HoldsFrom}
 use Rattle.frs_writer.proofs.Next.{rolled_newest, put_time, next_images}
 use Rattle.frs_writer.proofs.Rolled.{kept_cut, kept_rolled, rolled_images, rolled_view}
 use Rattle.frs_writer.proofs.Segments.{newest_get, newest_number, fresh}
 use Rattle.frs_writer.proofs.Spelled.{spells_from, durable_spells, newest_synced, unchanged_spells}
-use Rattle.frs_writer.proofs.Thinning.{no_time}
+use Rattle.frs_disk.proofs.Moments.{passes_none}
 use Rattle.frs_writer.proofs.Whole.{durable_whole, from_whole, unchanged_whole}
 use Rattle.frs_writer.proofs.Written.{IsPut, ok_kept, err_kept, put_wrote, broke, not_broken, due}
 use Rattle.frs_writer.proofs.writer.Writer.write_next.Goals as goal
@@ -32,12 +30,6 @@ use Rattle.frs_writer.proofs.writer.Writer.write_next.Goals as goal
 
 fine-end : (g : _) (c : goal.Then-number-eq-END g) → c.self.inside.ended ≡ None
 fine-end g c = ap (λ (v : WriterView g.row.D.Denot). v.ended) c.self.view_is ∙ c.requires.fine
-
-due-end : (g : _) (c : goal.Then-number-eq-END g) → is_due (seen c.self.inside) ≡ true
-due-end g c = ap is_due c.self.view_is ∙ c.requires.next
-
-below-end : (g : _) (c : goal.Then-number-eq-END g) → c.self.inside.synced + 1 < 2 ^ 62
-below-end g c = ltb-true (c.self.inside.synced + 1) (2 ^ 62) (and_parts _ (nat_lt (c.self.inside.synced + 1) (2 ^ 62)) (due-end g c)).1
 
 newest-end : (g : _) (c : goal.Then-number-eq-END g) → c.index.result.now ≡ c.self.invariant.kept_is.counted.newest
 newest-end g c =
@@ -70,7 +62,7 @@ pub returns-then-number-eq-END-clause-whole : goal.returns-then-number-eq-END-cl
 returns-then-number-eq-END-clause-whole g c =
     let d = g.D.Disk in
     subst (λ (v : WriterView g.row.D.Denot). IsTrue (d.tells v.disk) → IsWellOpened d.reads d.may_leave v.opened → (log : Log) → IsLog d.reads v log → Placed log → WasEmpty d.reads v.opened
-    → (x : Image) → d.left_since v.disk (d.moment v.disk) x → HoldsFrom v.synced log x) c.self.view_is
+    → (x : Image) → d.left_since v.disk (d.moment v.disk) x → HoldsFrom (LeftNoFile d.may_leave v.opened) v.synced log x) c.self.view_is
     (λ told well log is_log placed empty.
     unchanged_whole d.tells d.reads d.may_leave d.removing (seen c.self.inside) c.self.invariant.kept_is told well log is_log placed empty d.moment d.left_since g.met.D.Disk.only_now)
 
@@ -85,7 +77,7 @@ pub returns-in_default-clause-whole : goal.returns-in_default-clause-whole
 returns-in_default-clause-whole g c =
     let d = g.D.Disk in
     subst (λ (v : WriterView g.row.D.Denot). IsTrue (d.tells v.disk) → IsWellOpened d.reads d.may_leave v.opened → (log : Log) → IsLog d.reads v log → Placed log → WasEmpty d.reads v.opened
-    → (x : Image) → d.left_since v.disk (d.moment v.disk) x → HoldsFrom v.synced log x) c.self.view_is
+    → (x : Image) → d.left_since v.disk (d.moment v.disk) x → HoldsFrom (LeftNoFile d.may_leave v.opened) v.synced log x) c.self.view_is
     (λ told well log is_log placed empty.
     unchanged_whole d.tells d.reads d.may_leave d.removing (seen c.self.inside) c.self.invariant.kept_is told well log is_log placed empty d.moment d.left_since g.met.D.Disk.only_now)
 
@@ -103,7 +95,7 @@ returns-then-is_err-clause-whole g c =
     let d = g.D.Disk in
     subst (λ (v : WriterView g.row.D.Denot). IsTrue (d.tells v.disk) → IsWellOpened d.reads d.may_leave c.self.inside.opened.value → (log : Log)
     → IsLog d.reads (record (seen c.self.inside) { segments = c.reserve.new.self.items }) log → Placed log → WasEmpty d.reads c.self.inside.opened.value
-    → (x : Image) → d.left_since c.self.inside.disk (d.moment v.disk) x → HoldsFrom v.synced log x) c.self.view_is
+    → (x : Image) → d.left_since c.self.inside.disk (d.moment v.disk) x → HoldsFrom (LeftNoFile d.may_leave c.self.inside.opened.value) v.synced log x) c.self.view_is
     (λ told well log is_log placed empty x left. unchanged_whole d.tells d.reads d.may_leave d.removing (seen c.self.inside) c.self.invariant.kept_is told well log
     (record { base = is_log.base; spelled = is_log.spelled; taken = is_log.taken; bytes = is_log.bytes; is = is_log.is }) placed empty d.moment d.left_since g.met.D.Disk.only_now x left)
 
@@ -114,9 +106,6 @@ fine-cut g c = ap (λ (v : WriterView g.row.D.Denot). v.ended) c.self.view_is �
 
 due-cut : (g : _) (c : goal.After-drop-places-in-Err g) → is_due (seen c.self.inside) ≡ true
 due-cut g c = ap is_due c.self.view_is ∙ c.requires.next
-
-below-cut : (g : _) (c : goal.After-drop-places-in-Err g) → c.self.inside.synced + 1 < 2 ^ 62
-below-cut g c = ltb-true (c.self.inside.synced + 1) (2 ^ 62) (and_parts _ (nat_lt (c.self.inside.synced + 1) (2 ^ 62)) (due-cut g c)).1
 
 newest-cut : (g : _) (c : goal.After-drop-places-in-Err g) → c.index.result.now ≡ c.self.invariant.kept_is.counted.newest
 newest-cut g c =
@@ -145,7 +134,7 @@ invariant_of-self-in-Err g c =
     record {
       kept_is = subst (λ (s : List Described). IsKept d.tells d.reads d.may_leave d.removing (record (seen c.self.inside) { disk = c.open_segment.new.disk; segments = s; ended = Some c.in-Err.fault })) (sym c.reserve.ensures.items)
           (kept_cut d.tells d.reads d.may_leave d.removing d.moment d.left_since g.met.D.Disk.counts_now g.met.D.Disk.stays_absent (seen c.self.inside) old.kept_is (fine-cut g c) c.open_segment.new.disk
-          c.open_segment.ensures.time.later c.open_segment.ensures.told (high-cut g c) (below-cut g c) (elsewhere-cut g c) (making-cut g c) c.in-Err.fault);
+          c.open_segment.ensures.time.later c.open_segment.ensures.told (high-cut g c) (due-cut g c) (elsewhere-cut g c) (making-cut g c) c.in-Err.fault);
       count = old.count;
       later = broken.0;
       broken = broken.1;
@@ -162,7 +151,7 @@ returns-in-Err-clause-images g c =
     let l : IsLog d.reads (seen c.self.inside) log = record { base = is_log.base; spelled = is_log.spelled; taken = is_log.taken; bytes = is_log.bytes; is = is_log.is } in
     spells_from d.tells d.reads d.may_leave d.removing (seen c.self.inside) old.kept_is told well log l placed c.self.inside.synced old.kept_is.counted.first x
     (rolled_images d.tells d.reads d.may_leave d.removing d.moment d.left_since g.met.D.Disk.counts_now g.met.D.Disk.stays_absent (seen c.self.inside) old.kept_is (fine-cut g c) c.open_segment.new.disk
-    c.open_segment.ensures.time.later c.open_segment.ensures.told (high-cut g c) (below-cut g c) (elsewhere-cut g c) (making-cut g c) told well log l placed x left))
+    c.open_segment.ensures.time.later c.open_segment.ensures.told (high-cut g c) (due-cut g c) (elsewhere-cut g c) (making-cut g c) told well log l placed x left))
 
 pub returns-in-Err-clause-whole : goal.returns-in-Err-clause-whole
 returns-in-Err-clause-whole g c =
@@ -170,12 +159,12 @@ returns-in-Err-clause-whole g c =
     let old = c.self.invariant in
     subst (λ (v : WriterView g.row.D.Denot). IsTrue (d.tells v.disk) → IsWellOpened d.reads d.may_leave c.self.inside.opened.value → (log : Log)
     → IsLog d.reads (record (seen c.self.inside) { disk = c.open_segment.new.disk; segments = c.reserve.new.self.items; ended = Some c.in-Err.fault }) log → Placed log → WasEmpty d.reads c.self.inside.opened.value
-    → (x : Image) → d.left_since c.open_segment.new.disk (d.moment v.disk) x → HoldsFrom v.synced log x) c.self.view_is
+    → (x : Image) → d.left_since c.open_segment.new.disk (d.moment v.disk) x → HoldsFrom (LeftNoFile d.may_leave c.self.inside.opened.value) v.synced log x) c.self.view_is
     (λ told well log is_log placed empty x left.
     let l : IsLog d.reads (seen c.self.inside) log = record { base = is_log.base; spelled = is_log.spelled; taken = is_log.taken; bytes = is_log.bytes; is = is_log.is } in
     from_whole c.self.inside.synced log x
     (rolled_images d.tells d.reads d.may_leave d.removing d.moment d.left_since g.met.D.Disk.counts_now g.met.D.Disk.stays_absent (seen c.self.inside) old.kept_is (fine-cut g c) c.open_segment.new.disk
-    c.open_segment.ensures.time.later c.open_segment.ensures.told (high-cut g c) (below-cut g c) (elsewhere-cut g c) (making-cut g c) told well log l placed x left) empty)
+    c.open_segment.ensures.time.later c.open_segment.ensures.told (high-cut g c) (due-cut g c) (elsewhere-cut g c) (making-cut g c) told well log l placed x left) empty)
 
 -- ---- the new segment
 
@@ -207,9 +196,6 @@ fine-ok g c = ap (λ (v : WriterView g.row.D.Denot). v.ended) c.self.view_is ∙
 
 due-ok : (g : _) (c : goal.After-self-in-Ok-written-1 g) → is_due (seen c.self.inside) ≡ true
 due-ok g c = ap is_due c.self.view_is ∙ c.requires.next
-
-below-ok : (g : _) (c : goal.After-self-in-Ok-written-1 g) → c.self.inside.synced + 1 < 2 ^ 62
-below-ok g c = ltb-true (c.self.inside.synced + 1) (2 ^ 62) (and_parts _ (nat_lt (c.self.inside.synced + 1) (2 ^ 62)) (due-ok g c)).1
 
 newest-ok : (g : _) (c : goal.After-self-in-Ok-written-1 g) → c.index.result.now ≡ c.self.invariant.kept_is.counted.newest
 newest-ok g c =
@@ -255,7 +241,7 @@ kept1-ok g c =
     let d = g.D.Disk in
     let made = c.in_default-open_segment.ensures in
     kept_rolled d.tells d.reads d.may_leave d.removing d.moment d.left_since g.met.D.Disk.counts_now g.met.D.Disk.stays_absent (seen c.self.inside) c.self.invariant.kept_is (fine-ok g c) c.open_segment.new.disk
-    c.open_segment.ensures.time.later c.open_segment.ensures.told (high-ok g c) (below-ok g c) (elsewhere-ok g c) (making-ok g c)
+    c.open_segment.ensures.time.later c.open_segment.ensures.told (high-ok g c) (due-ok g c) (elsewhere-ok g c) (making-ok g c)
     (subst (λ (n : ℕ). IsSynced d.reads d.may_leave c.open_segment.new.disk n) (number-ok g c) made.durable)
     (λ told. subst (λ (n : ℕ). SameElsewhere n (d.reads c.self.inside.disk) (d.reads c.open_segment.new.disk)) (number-ok g c) (c.open_segment.ensures.others told))
     c.open_segment.ensures.pending
@@ -352,10 +338,10 @@ returns-in-Ok-written-clause-images g c =
     (λ told well log is_log placed x left.
     spells_from d.tells d.reads d.may_leave d.removing (view-ok g c) (invariant_of-self-in-Ok-written g c).kept_is (told-ok g c told) well log is_log placed c.self.inside.synced (omega (arith, old.kept_is.counted.first, gathers.ring.1)) x
     (next_images d.tells d.reads d.may_leave d.removing d.moment d.left_since g.met.D.Disk.as_read g.met.D.Disk.counts_now g.met.D.Disk.only_now g.met.D.Disk.stays_absent (seen c.self.inside) old.kept_is (fine-ok g c) c.open_segment.new.disk
-    c.open_segment.ensures.time c.open_segment.ensures.told (high-ok g c) (below-ok g c) (elsewhere-ok g c) (making-ok g c) (kept1-ok g c)
+    c.open_segment.ensures.time c.open_segment.ensures.told (high-ok g c) (due-ok g c) (elsewhere-ok g c) (making-ok g c) (kept1-ok g c)
     c.args.limit c.requires.limit.1 c.put_group-written.new.taker c.put_group-written.new.kept group gathers c.put_group-written.new.disk c.put_group-written.new.segment c.put_group-written.result put (λ one. short-ok g c)
     (put_time d.tells d.reads d.may_leave d.removing d.moment d.left_since g.met.D.Disk.since_earlier c.open_segment.new.disk c.open_segment.new.disk c.put_group-written.new.disk (kept1-ok g c).counted.newest c.put_group-written.new.segment group c.put_group-written.result
-    (no_time d.moment d.left_since d.may_leave [] c.open_segment.new.disk) put)
+    (passes_none d.moment d.left_since c.open_segment.new.disk) put)
     (view-ok g c) refl refl told well log is_log placed x left))
 
 pub returns-in-Ok-written-clause-whole : goal.returns-in-Ok-written-clause-whole
@@ -364,14 +350,14 @@ returns-in-Ok-written-clause-whole g c =
     let old = c.self.invariant in
     let (group, gathers, put) = put-ok g c in
     subst (λ (v : WriterView g.row.D.Denot). IsTrue (d.tells v.disk) → IsWellOpened d.reads d.may_leave c.self.inside.opened.value → (log : Log) → IsLog d.reads (view-ok g c) log → Placed log → WasEmpty d.reads c.self.inside.opened.value
-    → (x : Image) → d.left_since c.put_group-written.new.disk (d.moment v.disk) x → HoldsFrom v.synced log x) c.self.view_is
+    → (x : Image) → d.left_since c.put_group-written.new.disk (d.moment v.disk) x → HoldsFrom (LeftNoFile d.may_leave c.self.inside.opened.value) v.synced log x) c.self.view_is
     (λ told well log is_log placed empty x left.
     from_whole c.self.inside.synced log x
     (next_images d.tells d.reads d.may_leave d.removing d.moment d.left_since g.met.D.Disk.as_read g.met.D.Disk.counts_now g.met.D.Disk.only_now g.met.D.Disk.stays_absent (seen c.self.inside) old.kept_is (fine-ok g c) c.open_segment.new.disk
-    c.open_segment.ensures.time c.open_segment.ensures.told (high-ok g c) (below-ok g c) (elsewhere-ok g c) (making-ok g c) (kept1-ok g c)
+    c.open_segment.ensures.time c.open_segment.ensures.told (high-ok g c) (due-ok g c) (elsewhere-ok g c) (making-ok g c) (kept1-ok g c)
     c.args.limit c.requires.limit.1 c.put_group-written.new.taker c.put_group-written.new.kept group gathers c.put_group-written.new.disk c.put_group-written.new.segment c.put_group-written.result put (λ one. short-ok g c)
     (put_time d.tells d.reads d.may_leave d.removing d.moment d.left_since g.met.D.Disk.since_earlier c.open_segment.new.disk c.open_segment.new.disk c.put_group-written.new.disk (kept1-ok g c).counted.newest c.put_group-written.new.segment group c.put_group-written.result
-    (no_time d.moment d.left_since d.may_leave [] c.open_segment.new.disk) put)
+    (passes_none d.moment d.left_since c.open_segment.new.disk) put)
     (view-ok g c) refl refl told well log is_log placed x left) empty)
 
 pub returns-in-Ok-written-clause-time : goal.returns-in-Ok-written-clause-time
@@ -394,7 +380,7 @@ pub returns-in-Ok-written-clause-whole_durable : goal.returns-in-Ok-written-clau
 returns-in-Ok-written-clause-whole_durable g c =
     let d = g.D.Disk in
     subst (λ (v : WriterView g.row.D.Denot). IsTrue (d.tells v.disk) → IsWellOpened d.reads d.may_leave c.self.inside.opened.value → (log : Log) → IsLog d.reads (view-ok g c) log → Placed log → WasEmpty d.reads c.self.inside.opened.value
-    → (x : Image) → d.may_leave c.put_group-written.new.disk x → HoldsAll (entries x) (take (c.self.inside.synced + c.from-in-Ok-written.result) log.records)) c.self.view_is
+    → (x : Image) → d.may_leave c.put_group-written.new.disk x → HoldsLog (LeftNoFile d.may_leave c.self.inside.opened.value) 0 (entries x) (take (c.self.inside.synced + c.from-in-Ok-written.result) log.records)) c.self.view_is
     (λ told well log is_log placed empty x left.
     durable_whole d.tells d.reads d.may_leave d.removing (view-ok g c) (invariant_of-self-in-Ok-written g c).kept_is (told-ok g c told) well log is_log placed empty (fine-ok g c) x left)
 
@@ -411,9 +397,6 @@ fine-err g c = ap (λ (v : WriterView g.row.D.Denot). v.ended) c.self.view_is �
 
 due-err : (g : _) (c : goal.After-from-in-Err-written g) → is_due (seen c.self.inside) ≡ true
 due-err g c = ap is_due c.self.view_is ∙ c.requires.next
-
-below-err : (g : _) (c : goal.After-from-in-Err-written g) → c.self.inside.synced + 1 < 2 ^ 62
-below-err g c = ltb-true (c.self.inside.synced + 1) (2 ^ 62) (and_parts _ (nat_lt (c.self.inside.synced + 1) (2 ^ 62)) (due-err g c)).1
 
 newest-err : (g : _) (c : goal.After-from-in-Err-written g) → c.index.result.now ≡ c.self.invariant.kept_is.counted.newest
 newest-err g c =
@@ -459,7 +442,7 @@ kept1-err g c =
     let d = g.D.Disk in
     let made = c.in_default-open_segment.ensures in
     kept_rolled d.tells d.reads d.may_leave d.removing d.moment d.left_since g.met.D.Disk.counts_now g.met.D.Disk.stays_absent (seen c.self.inside) c.self.invariant.kept_is (fine-err g c) c.open_segment.new.disk
-    c.open_segment.ensures.time.later c.open_segment.ensures.told (high-err g c) (below-err g c) (elsewhere-err g c) (making-err g c)
+    c.open_segment.ensures.time.later c.open_segment.ensures.told (high-err g c) (due-err g c) (elsewhere-err g c) (making-err g c)
     (subst (λ (n : ℕ). IsSynced d.reads d.may_leave c.open_segment.new.disk n) (number-err g c) made.durable)
     (λ told. subst (λ (n : ℕ). SameElsewhere n (d.reads c.self.inside.disk) (d.reads c.open_segment.new.disk)) (number-err g c) (c.open_segment.ensures.others told))
     c.open_segment.ensures.pending
@@ -541,10 +524,10 @@ returns-in-Err-written-clause-images g c =
     (λ told well log is_log placed x left.
     spells_from d.tells d.reads d.may_leave d.removing (view-err g c) (invariant_of-self-in-Err-written g c).kept_is (told-err g c told) well log is_log placed c.self.inside.synced (omega (arith, old.kept_is.counted.first, gathers.ring.1)) x
     (next_images d.tells d.reads d.may_leave d.removing d.moment d.left_since g.met.D.Disk.as_read g.met.D.Disk.counts_now g.met.D.Disk.only_now g.met.D.Disk.stays_absent (seen c.self.inside) old.kept_is (fine-err g c) c.open_segment.new.disk
-    c.open_segment.ensures.time c.open_segment.ensures.told (high-err g c) (below-err g c) (elsewhere-err g c) (making-err g c) (kept1-err g c)
+    c.open_segment.ensures.time c.open_segment.ensures.told (high-err g c) (due-err g c) (elsewhere-err g c) (making-err g c) (kept1-err g c)
     c.args.limit c.requires.limit.1 c.put_group-written.new.taker c.put_group-written.new.kept group gathers c.put_group-written.new.disk c.put_group-written.new.segment c.put_group-written.result put (λ one. short-err g c)
     (put_time d.tells d.reads d.may_leave d.removing d.moment d.left_since g.met.D.Disk.since_earlier c.open_segment.new.disk c.open_segment.new.disk c.put_group-written.new.disk (kept1-err g c).counted.newest c.put_group-written.new.segment group c.put_group-written.result
-    (no_time d.moment d.left_since d.may_leave [] c.open_segment.new.disk) put)
+    (passes_none d.moment d.left_since c.open_segment.new.disk) put)
     (view-err g c) refl refl told well log is_log placed x left))
 
 pub returns-in-Err-written-clause-whole : goal.returns-in-Err-written-clause-whole
@@ -553,14 +536,14 @@ returns-in-Err-written-clause-whole g c =
     let old = c.self.invariant in
     let (group, gathers, put) = put-err g c in
     subst (λ (v : WriterView g.row.D.Denot). IsTrue (d.tells v.disk) → IsWellOpened d.reads d.may_leave c.self.inside.opened.value → (log : Log) → IsLog d.reads (view-err g c) log → Placed log → WasEmpty d.reads c.self.inside.opened.value
-    → (x : Image) → d.left_since c.put_group-written.new.disk (d.moment v.disk) x → HoldsFrom v.synced log x) c.self.view_is
+    → (x : Image) → d.left_since c.put_group-written.new.disk (d.moment v.disk) x → HoldsFrom (LeftNoFile d.may_leave c.self.inside.opened.value) v.synced log x) c.self.view_is
     (λ told well log is_log placed empty x left.
     from_whole c.self.inside.synced log x
     (next_images d.tells d.reads d.may_leave d.removing d.moment d.left_since g.met.D.Disk.as_read g.met.D.Disk.counts_now g.met.D.Disk.only_now g.met.D.Disk.stays_absent (seen c.self.inside) old.kept_is (fine-err g c) c.open_segment.new.disk
-    c.open_segment.ensures.time c.open_segment.ensures.told (high-err g c) (below-err g c) (elsewhere-err g c) (making-err g c) (kept1-err g c)
+    c.open_segment.ensures.time c.open_segment.ensures.told (high-err g c) (due-err g c) (elsewhere-err g c) (making-err g c) (kept1-err g c)
     c.args.limit c.requires.limit.1 c.put_group-written.new.taker c.put_group-written.new.kept group gathers c.put_group-written.new.disk c.put_group-written.new.segment c.put_group-written.result put (λ one. short-err g c)
     (put_time d.tells d.reads d.may_leave d.removing d.moment d.left_since g.met.D.Disk.since_earlier c.open_segment.new.disk c.open_segment.new.disk c.put_group-written.new.disk (kept1-err g c).counted.newest c.put_group-written.new.segment group c.put_group-written.result
-    (no_time d.moment d.left_since d.may_leave [] c.open_segment.new.disk) put)
+    (passes_none d.moment d.left_since c.open_segment.new.disk) put)
     (view-err g c) refl refl told well log is_log placed x left) empty)
 
 pub returns-in-Err-written-clause-time : goal.returns-in-Err-written-clause-time
