@@ -6,7 +6,7 @@ use Rattle.frs_disk.specs.Disk.{Image}
 use Rattle.frs_disk.specs.declared.calls.Call.{Call}
 use Rattle.frs_disk.specs.declared.calls.Call.TheVariants.{Segments, Create, Length, Read, Write, Sync, Remove}
 use Rattle.frs_disk.specs.declared.calls.Made.{Made}
-use Rattle.frs_disk.specs.Calls.{after, replayed, chosen, chosen_made, SyncsMade, HasSynced, IsAsSynced}
+use Rattle.frs_disk.specs.Calls.{image_after, image_after_calls, chosen_image, chosen_made, SyncsMade, HasSynced, IsAsSynced}
 use Rattle.frs_disk.specs.CallLaws.{replayed-push}
 use Rattle.frs_disk.specs.Choices.{mixed_here, mixed_other}
 
@@ -36,14 +36,14 @@ made_step false call reads image n = inl (λ none. none, refl)
 
 -- the file was never synced, or these calls stand before its last sync, and these after it
 abbrev Last : Image → Image → List Made → ℕ → Type 0
-Last reads image calls n = ((HasSynced calls n → ⊥) × (get (chosen None reads image calls) n ≡ get image n))
-    ⊎ ((earlier : List Made) × (later : List Made) × (calls ≡ earlier ++ record { call = Sync n; done = true } ∷ later) × (HasSynced later n → ⊥) × (get (chosen None reads image calls) n ≡ get (replayed reads earlier) n))
+Last reads image calls n = ((HasSynced calls n → ⊥) × (get (chosen_image None reads image calls) n ≡ get image n))
+    ⊎ ((earlier : List Made) × (later : List Made) × (calls ≡ earlier ++ record { call = Sync n; done = true } ∷ later) × (HasSynced later n → ⊥) × (get (chosen_image None reads image calls) n ≡ get (image_after_calls reads earlier) n))
 
 last_sync : (reads image : Image) (calls : List Made) (n : ℕ) → Last reads image calls n
 last_sync reads image [] n = inl (λ none. none, refl)
-last_sync reads image (made ∷ calls) n = joined (last_sync (after made reads) (chosen_made None made.done made.call reads image) calls n) (made_step made.done made.call reads image n)
+last_sync reads image (made ∷ calls) n = joined (last_sync (image_after made reads) (chosen_made None made.done made.call reads image) calls n) (made_step made.done made.call reads image n)
   where
-    joined : Last (after made reads) (chosen_made None made.done made.call reads image) calls n → Step made reads image n → Last reads image (made ∷ calls) n
+    joined : Last (image_after made reads) (chosen_made None made.done made.call reads image) calls n → Step made reads image n → Last reads image (made ∷ calls) n
     joined (inr had) step = inr (made ∷ had.0, had.1, ap (λ (l : List Made). made ∷ l) had.2, had.3, had.4)
     joined (inl never) (inl other) = inl (λ has. ⊎_elim (λ here. other.0 here) (λ later. never.0 later) has, never.1 ∙ other.1)
     joined (inl never) (inr sync) = inr ([], calls, ap (λ (m : Made). m ∷ calls) sync.0, never.0, never.1 ∙ sync.1)
@@ -52,7 +52,7 @@ regrouped : (earlier later : List Made) (made : Made) → earlier ++ made ∷ la
 regrouped [] later made = refl
 regrouped (m ∷ earlier) later made = ap (λ (l : List Made). m ∷ l) (regrouped earlier later made)
 
-pub lost_is_synced : (start : Image) (calls : List Made) (n : ℕ) → IsAsSynced start (chosen None start start calls) calls n
+pub lost_is_synced : (start : Image) (calls : List Made) (n : ℕ) → IsAsSynced start (chosen_image None start start calls) calls n
 lost_is_synced start calls n = ⊎_elim
     (λ never. record { before = []; later = calls; split = refl; last = inl refl; none_later = never.0; same = never.1 })
     (λ had. record {

@@ -5,12 +5,12 @@ use Rattle.frs_disk.specs.declared.disk.Fault.{Fault}
 use Rattle.frs_disk.specs.declared.disk.Fault.TheVariants.{Failed, Memory}
 
 -- the number is among these
-abbrev pub names : List ℕ → ℕ → Bool
-names numbers n = list_any (λ k. k == n) numbers
+abbrev pub is_named : List ℕ → ℕ → Bool
+is_named numbers n = list_any (λ k. k == n) numbers
 
 -- a count after one more, which stands still at its type's end
-abbrev pub risen : ℕ → ℕ
-risen n = min (n + 1) (2 ^ 64 - 1)
+abbrev pub count_after_one : ℕ → ℕ
+count_after_one n = min (n + 1) (2 ^ 64 - 1)
 
 -- a call fails exactly where this test says so, but for want of memory
 abbrev pub FailsExactly : {V : Type 0} → Bool → Result V Fault → Type 0
@@ -21,7 +21,7 @@ FailsExactly test (Err Memory) = ⊤
 -- the count of faults after this answer
 abbrev pub faults_after : {V : Type 0} → Result V Fault → ℕ → ℕ
 faults_after (Ok value) n = n
-faults_after (Err Failed) n = risen n
+faults_after (Err Failed) n = count_after_one n
 faults_after (Err Memory) n = n
 
 -- what is printed of a fault

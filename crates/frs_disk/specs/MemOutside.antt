@@ -5,7 +5,7 @@ use Rattle.std.specs.Option.{option_map}
 use Rattle.std.specs.Str.{bytes_eq}
 use Rattle.std.specs.FinMap.{from_sorted}
 use Rattle.std.specs.declared.alloc.Global.{Global}
-use Rattle.frs_disk.specs.Faults.{names, risen, faults_after}
+use Rattle.frs_disk.specs.Faults.{is_named, count_after_one, faults_after}
 use Rattle.frs_disk.specs.Outside.{shelf_cmp, ShelfFiles}
 use Rattle.frs_disk.specs.Shelved.{shelved}
 use Rattle.frs_disk.specs.declared.disk.Fault.{Fault}
@@ -40,12 +40,12 @@ sink_tally sink = sink.tally
 
 -- the next call is one of those that fail
 abbrev pub next_fails : Tally → Bool
-next_fails tally = names tally.failing.items (risen tally.made)
+next_fails tally = is_named tally.failing.items (count_after_one tally.made)
 
 -- how many calls were made after this answer; one that was refused for memory doesn't count
 abbrev pub made_after : {V : Type 0} → Result V Fault → ℕ → ℕ
-made_after (Ok value) n = risen n
-made_after (Err Failed) n = risen n
+made_after (Ok value) n = count_after_one n
+made_after (Err Failed) n = count_after_one n
 made_after (Err Memory) n = n
 
 -- the counts after this answer

@@ -2,7 +2,7 @@
 use Rattle.std.specs.Prelude.{◌≡◌, ◌↔◌, ℕ, ◌+◌, Bool, false, ◌||◌, nat_lt, List, length, Option, Some, None, OnErr, Result}
 use Rattle.frs_disk.specs.Disk.{Image}
 use Rattle.frs_disk.specs.Files.{image_of}
-use Rattle.frs_disk.specs.Faults.{names, FailsExactly, faults_after}
+use Rattle.frs_disk.specs.Faults.{is_named, FailsExactly, faults_after}
 use Rattle.frs_disk.specs.Calls.{MayLeave, LeftSince, HasRemoved, Notes}
 use Rattle.frs_disk.specs.declared.disk.Fault.{Fault}
 use Rattle.frs_disk.specs.declared.calls.Call.{Call}
@@ -22,8 +22,8 @@ files_of disk = image_of disk.files.items
 abbrev pub record_of : MemDisk → List Made
 record_of disk = disk.calls.items
 
-abbrev pub plan_of : MemDisk → FaultPlan
-plan_of disk = disk.plan
+abbrev pub fault_plan_of : MemDisk → FaultPlan
+fault_plan_of disk = disk.plan
 
 abbrev pub faults_of : MemDisk → ℕ
 faults_of disk = disk.faults
@@ -49,7 +49,7 @@ is_stopped (Some last) n = nat_lt last n
 
 -- the plan lets the call with this number fail
 abbrev pub fails_at : FaultPlan → ℕ → Bool
-fails_at plan n = names plan.failing.items n || is_stopped plan.stop_after n
+fails_at plan n = is_named plan.failing.items n || is_stopped plan.stop_after n
 
 -- no file is another, a crash may leave the same as before, and the same removals are pending
 pub record IsUntouched (old new : MemDisk) : Type 0 where
@@ -60,9 +60,9 @@ pub record IsUntouched (old new : MemDisk) : Type 0 where
 -- What one call does beside its answer: it stands in the record, it has failed exactly where the plan says so,
 -- and where it is refused it has changed nothing.
 pub record Plays {V : Type 0} (call : Call) (old new : MemDisk) (result : Result V Fault) : Type 0 where
-  pub plan : plan_of new ≡ plan_of old
+  pub plan : fault_plan_of new ≡ fault_plan_of old
   pub start : start_of new ≡ start_of old
   pub noted : Notes call (record_of old) (record_of new) result
-  pub planned : FailsExactly (fails_at (plan_of old) (length (record_of old) + 1)) result
+  pub planned : FailsExactly (fails_at (fault_plan_of old) (length (record_of old) + 1)) result
   pub counted : faults_of new ≡ faults_after result (faults_of old)
   pub refused : OnErr result (IsUntouched old new)

@@ -2,8 +2,8 @@
 ghost use Rattle.std.specs.Prelude.{◌≡◌, T, IfOk, OnOk};
 ghost use Rattle.std.specs.FinMap.{is_sorted};
 ghost use Rattle.std.specs.Ordering.{nat_cmp};
-ghost use Rattle.frs_disk.specs.Files.{plain, image_of};
-ghost use Rattle.frs_disk.specs.Calls.{after_call, chosen, chosen_call};
+ghost use Rattle.frs_disk.specs.Files.{plain_files, image_of};
+ghost use Rattle.frs_disk.specs.Calls.{after_call, chosen_image, chosen_call};
 
 use crate::calls::{Call, Made};
 use crate::table::{copy_files, place_file, put_file, remove_file, write_file};
@@ -16,9 +16,9 @@ pub fn replay_all(
     start: &[(u64, Vec<u8>)],
     calls: &[Made],
 ) -> Result<Vec<(u64, Vec<u8>)>, AllocError>
-    requires { T (is_sorted nat_cmp (plain start.now)) }
-    ensures rising { IfOk result (λ files. T (is_sorted nat_cmp (plain files.items))) }
-    ensures image { IfOk result (λ files. image_of files.items ≡ chosen fill (image_of start.now) (image_of start.now) calls.now) }
+    requires { T (is_sorted nat_cmp (plain_files start.now)) }
+    ensures rising { IfOk result (λ files. T (is_sorted nat_cmp (plain_files files.items))) }
+    ensures image { IfOk result (λ files. image_of files.items ≡ chosen_image fill (image_of start.now) (image_of start.now) calls.now) }
 {
     let mut reads = copy_files(alloc, start)?;
     let mut image = copy_files(alloc, start)?;
@@ -40,10 +40,10 @@ fn replay(
     reads: &mut Vec<(u64, Vec<u8>)>,
     image: &mut Vec<(u64, Vec<u8>)>,
 ) -> Result<(), AllocError>
-    requires reads_rising { T (is_sorted nat_cmp (plain reads.old.items)) }
-    requires image_rising { T (is_sorted nat_cmp (plain image.old.items)) }
-    ensures reads_still { T (is_sorted nat_cmp (plain reads.new.items)) }
-    ensures image_still { T (is_sorted nat_cmp (plain image.new.items)) }
+    requires reads_rising { T (is_sorted nat_cmp (plain_files reads.old.items)) }
+    requires image_rising { T (is_sorted nat_cmp (plain_files image.old.items)) }
+    ensures reads_still { T (is_sorted nat_cmp (plain_files reads.new.items)) }
+    ensures image_still { T (is_sorted nat_cmp (plain_files image.new.items)) }
     ensures reads { OnOk result (image_of reads.new.items ≡ after_call call.now (image_of reads.old.items)) }
     ensures image { OnOk result (image_of image.new.items ≡ chosen_call fill call.now (image_of reads.old.items) (image_of image.old.items)) }
 {

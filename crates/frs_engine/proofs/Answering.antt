@@ -17,11 +17,11 @@ use Rattle.frs_history.specs.declared.event.Ack.{Ack}
 use Rattle.frs_history.specs.declared.event.Event.{Event}
 use Rattle.frs_history.specs.declared.event.Reply.{Reply}
 use Rattle.frs_history.specs.declared.event.Reply.TheVariants as reply
-use Rattle.frs_history.specs.Histories.{Moment, run, next, moment, moments, commits, commits_of, commits_by, owed, is_owed, is_owed_by, same_reply, if_next, if_answers}
+use Rattle.frs_history.specs.Histories.{Moment, run, next, moment, moments, commits, commits_of, commits_by, owed_events, is_owed, is_owed_by, same_reply, if_next, if_answers}
 use Rattle.frs_history.specs.Machine.{Changes, Scripts, State, start, outcome, value_or_none}
 use Rattle.frs_history.specs.Machine.Transaction.{Outside}
 use Rattle.frs_engine.specs.Promise.{commits_of_run, acks_from, owed_acks}
-use Rattle.frs_engine.specs.Session.{state_at, answer}
+use Rattle.frs_engine.specs.Session.{state_at, answer_event}
 
 -- ---- one more event, of any history
 
@@ -49,10 +49,10 @@ moments-push scripts s (x ∷ es) e t is =
 commits-push : (ms : List Moment) (m : Moment) → commits (ms ++ m ∷ []) ≡ commits ms ++ commits_of m
 commits-push ms m = flat_map-append commits_of ms (m ∷ []) ∙ ap (λ (cs : List Changes). commits ms ++ cs) (append-nil (commits_of m))
 
-owed-push : (ms : List Moment) (m : Moment) → owed (ms ++ m ∷ []) ≡ owed ms ++ cond (is_owed m) (m.event ∷ []) []
+owed-push : (ms : List Moment) (m : Moment) → owed_events (ms ++ m ∷ []) ≡ owed_events ms ++ cond (is_owed m) (m.event ∷ []) []
 owed-push ms m =
     ap (map (λ (x : Moment). x.event)) (filter-append is_owed ms (m ∷ [])) ∙ map-append (λ (x : Moment). x.event) (filter is_owed ms) (filter is_owed (m ∷ []))
-    ∙ ap (λ (es : List Event). owed ms ++ es) (elim (is_owed m) as (λ b. map (λ (x : Moment). x.event) (cond b (m ∷ []) []) ≡ cond b (m.event ∷ []) []) [ true ↦ refl | false ↦ refl ])
+    ∙ ap (λ (es : List Event). owed_events ms ++ es) (elim (is_owed m) as (λ b. map (λ (x : Moment). x.event) (cond b (m ∷ []) []) ≡ cond b (m.event ∷ []) []) [ true ↦ refl | false ↦ refl ])
 
 -- ---- acknowledgements
 
@@ -78,27 +78,27 @@ acks_within n m (a ∷ acks) le is =
 module _ (script : List Line) (es : List Event) (m : Maps) (k n : ℕ) (was : run (script ∷ []) (start [] 0 1) es ≡ Some (state_at m k)) where
   -- a put is next
   module _ (id key value : List ℕ) (is : slice_get script k ≡ Some (record { number = n; command = command.Put id key value })) where
-    put_next : next (script ∷ []) (state_at m k) (answer n reply.Done) ≡ Some (state_at (put place_cmp (id, key) value m) (k + 1))
+    put_next : next (script ∷ []) (state_at m k) (answer_event n reply.Done) ≡ Some (state_at (put place_cmp (id, key) value m) (k + 1))
     put_next =
         ap (if_next n (λ x. if_answers reply.Done (outcome (state_at m k) 1 x))) is
         ∙ ap (λ b. cond b (if_answers reply.Done (outcome (state_at m k) 1 (command.Put id key value))) None) (eq-eqb n n refl)
 
-    pub put_run : run (script ∷ []) (start [] 0 1) (es ++ answer n reply.Done ∷ []) ≡ Some (state_at (put place_cmp (id, key) value m) (k + 1))
-    put_run = run-push (script ∷ []) (start [] 0 1) es (answer n reply.Done) (state_at m k) was ∙ put_next
+    pub put_run : run (script ∷ []) (start [] 0 1) (es ++ answer_event n reply.Done ∷ []) ≡ Some (state_at (put place_cmp (id, key) value m) (k + 1))
+    put_run = run-push (script ∷ []) (start [] 0 1) es (answer_event n reply.Done) (state_at m k) was ∙ put_next
 
-    pub put_commits : commits_of_run script (es ++ answer n reply.Done ∷ []) ≡ commits_of_run script es ++ (Set id key value ∷ []) ∷ []
+    pub put_commits : commits_of_run script (es ++ answer_event n reply.Done ∷ []) ≡ commits_of_run script es ++ (Set id key value ∷ []) ∷ []
     put_commits =
-        ap commits (moments-push (script ∷ []) (start [] 0 1) es (answer n reply.Done) (state_at m k) was)
-        ∙ commits-push (moments (script ∷ []) (start [] 0 1) es) (moment (script ∷ []) (state_at m k) (answer n reply.Done))
-        ∙ ap (λ (o : Option Line). commits_of_run script es ++ commits_by Outside (option_map (λ (l : Line). l.command) o) (answer n reply.Done).what) is
+        ap commits (moments-push (script ∷ []) (start [] 0 1) es (answer_event n reply.Done) (state_at m k) was)
+        ∙ commits-push (moments (script ∷ []) (start [] 0 1) es) (moment (script ∷ []) (state_at m k) (answer_event n reply.Done))
+        ∙ ap (λ (o : Option Line). commits_of_run script es ++ commits_by Outside (option_map (λ (l : Line). l.command) o) (answer_event n reply.Done).what) is
 
-    pub put_owed : owed_acks script (es ++ answer n reply.Done ∷ []) ≡ owed_acks script es ++ record { client = 1; line = n; lsn = 2 + length (owed_acks script es) } ∷ []
+    pub put_owed : owed_acks script (es ++ answer_event n reply.Done ∷ []) ≡ owed_acks script es ++ record { client = 1; line = n; lsn = 2 + length (owed_acks script es) } ∷ []
     put_owed =
-        let before : List Event = owed (moments (script ∷ []) (start [] 0 1) es) in
-        ap (λ (ms : List Moment). acks_from 2 (owed ms)) (moments-push (script ∷ []) (start [] 0 1) es (answer n reply.Done) (state_at m k) was)
-        ∙ ap (acks_from 2) (owed-push (moments (script ∷ []) (start [] 0 1) es) (moment (script ∷ []) (state_at m k) (answer n reply.Done)))
-        ∙ ap (λ (o : Option Line). acks_from 2 (before ++ cond (is_owed_by Outside (option_map (λ (l : Line). l.command) o) (answer n reply.Done).what) (answer n reply.Done ∷ []) [])) is
-        ∙ acks_from-push 2 before (answer n reply.Done)
+        let before : List Event = owed_events (moments (script ∷ []) (start [] 0 1) es) in
+        ap (λ (ms : List Moment). acks_from 2 (owed_events ms)) (moments-push (script ∷ []) (start [] 0 1) es (answer_event n reply.Done) (state_at m k) was)
+        ∙ ap (acks_from 2) (owed-push (moments (script ∷ []) (start [] 0 1) es) (moment (script ∷ []) (state_at m k) (answer_event n reply.Done)))
+        ∙ ap (λ (o : Option Line). acks_from 2 (before ++ cond (is_owed_by Outside (option_map (λ (l : Line). l.command) o) (answer_event n reply.Done).what) (answer_event n reply.Done ∷ []) [])) is
+        ∙ acks_from-push 2 before (answer_event n reply.Done)
         ∙ ap (λ (i : ℕ). owed_acks script es ++ record { client = 1; line = n; lsn = 2 + i } ∷ []) (sym (length-acks_from 2 before))
 
   -- a get is next
@@ -107,38 +107,38 @@ module _ (script : List Line) (es : List Event) (m : Maps) (k n : ℕ) (was : ru
     same-value None = refl
     same-value (Some v) = (bytes_eq-Decides v v).1 refl
 
-    get_next : next (script ∷ []) (state_at m k) (answer n (value_or_none (at m (id, key)))) ≡ Some (state_at m (k + 1))
+    get_next : next (script ∷ []) (state_at m k) (answer_event n (value_or_none (at m (id, key)))) ≡ Some (state_at m (k + 1))
     get_next =
         let r : Reply = value_or_none (at m (id, key)) in
         ap (if_next n (λ x. if_answers r (outcome (state_at m k) 1 x))) is
         ∙ ap (λ b. cond b (if_answers r (outcome (state_at m k) 1 (command.Get id key))) None) (eq-eqb n n refl)
         ∙ ap (λ b. cond b (Some (state_at m (k + 1))) None) (same-value (at m (id, key)))
 
-    pub get_run : run (script ∷ []) (start [] 0 1) (es ++ answer n (value_or_none (at m (id, key))) ∷ []) ≡ Some (state_at m (k + 1))
-    get_run = run-push (script ∷ []) (start [] 0 1) es (answer n (value_or_none (at m (id, key)))) (state_at m k) was ∙ get_next
+    pub get_run : run (script ∷ []) (start [] 0 1) (es ++ answer_event n (value_or_none (at m (id, key))) ∷ []) ≡ Some (state_at m (k + 1))
+    get_run = run-push (script ∷ []) (start [] 0 1) es (answer_event n (value_or_none (at m (id, key)))) (state_at m k) was ∙ get_next
 
-    get_commits_none : (o : Option (List ℕ)) → commits_by Outside (Some (command.Get id key)) (answer n (value_or_none o)).what ≡ []
+    get_commits_none : (o : Option (List ℕ)) → commits_by Outside (Some (command.Get id key)) (answer_event n (value_or_none o)).what ≡ []
     get_commits_none None = refl
     get_commits_none (Some v) = refl
 
-    pub get_commits : commits_of_run script (es ++ answer n (value_or_none (at m (id, key))) ∷ []) ≡ commits_of_run script es
+    pub get_commits : commits_of_run script (es ++ answer_event n (value_or_none (at m (id, key))) ∷ []) ≡ commits_of_run script es
     get_commits =
-        let e : Event = answer n (value_or_none (at m (id, key))) in
+        let e : Event = answer_event n (value_or_none (at m (id, key))) in
         ap commits (moments-push (script ∷ []) (start [] 0 1) es e (state_at m k) was)
         ∙ commits-push (moments (script ∷ []) (start [] 0 1) es) (moment (script ∷ []) (state_at m k) e)
         ∙ ap (λ (o : Option Line). commits_of_run script es ++ commits_by Outside (option_map (λ (l : Line). l.command) o) e.what) is
         ∙ ap (λ (cs : List Changes). commits_of_run script es ++ cs) (get_commits_none (at m (id, key)))
         ∙ append-nil (commits_of_run script es)
 
-    get_owed_none : (o : Option (List ℕ)) → is_owed_by Outside (Some (command.Get id key)) (answer n (value_or_none o)).what ≡ false
+    get_owed_none : (o : Option (List ℕ)) → is_owed_by Outside (Some (command.Get id key)) (answer_event n (value_or_none o)).what ≡ false
     get_owed_none None = refl
     get_owed_none (Some v) = refl
 
-    pub get_owed : owed_acks script (es ++ answer n (value_or_none (at m (id, key))) ∷ []) ≡ owed_acks script es
+    pub get_owed : owed_acks script (es ++ answer_event n (value_or_none (at m (id, key))) ∷ []) ≡ owed_acks script es
     get_owed =
-        let e : Event = answer n (value_or_none (at m (id, key))) in
-        let before : List Event = owed (moments (script ∷ []) (start [] 0 1) es) in
-        ap (λ (ms : List Moment). acks_from 2 (owed ms)) (moments-push (script ∷ []) (start [] 0 1) es e (state_at m k) was)
+        let e : Event = answer_event n (value_or_none (at m (id, key))) in
+        let before : List Event = owed_events (moments (script ∷ []) (start [] 0 1) es) in
+        ap (λ (ms : List Moment). acks_from 2 (owed_events ms)) (moments-push (script ∷ []) (start [] 0 1) es e (state_at m k) was)
         ∙ ap (acks_from 2) (owed-push (moments (script ∷ []) (start [] 0 1) es) (moment (script ∷ []) (state_at m k) e))
         ∙ ap (λ (o : Option Line). acks_from 2 (before ++ cond (is_owed_by Outside (option_map (λ (l : Line). l.command) o) e.what) (e ∷ []) [])) is
         ∙ ap (λ b. acks_from 2 (before ++ cond b (e ∷ []) [])) (get_owed_none (at m (id, key)))

@@ -5,7 +5,7 @@ use Rattle.std.proofs.lemmas.Bool.{leb-false}
 use Rattle.frs_history.specs.declared.command.Command.{Command}
 use Rattle.frs_history.specs.declared.command.Line.{Line}
 use Rattle.frs_text.specs.declared.script_fault.ScriptFault.{ScriptFault}
-use Rattle.frs_text.specs.Scripts.{Allowed, Said, script_after, fault_of, refusal, line_of, said, unless, is_long, is_inside, is_snapshot, is_change, snapshots_of, changes_of}
+use Rattle.frs_text.specs.Scripts.{Allowed, Said, script_after, fault_of, refusal, line_of, said, with_fault_unless, is_long, is_inside, is_snapshot, is_change, snapshots_of, count_of_changes}
 use Rattle.frs_text.specs.Scripts.Said.{Nothing, Says, Wrong}
 use Rattle.frs_history.specs.Scripts.{may_stand}
 use Rattle.frs_text.specs.declared.script_fault.ScriptFault.TheVariants.{BadLine, TooLong, TooMany}
@@ -15,7 +15,7 @@ not_past : (allowed : Allowed) (before : List Line) (n : ℕ) (x : Command) → 
 not_past allowed before n x none = by (may_stand (is_inside before) x) (is_long x) (nat_le allowed.commands (length before)) refl none
   where
     by : (stands long past : Bool) → nat_le allowed.commands (length before) ≡ past
-        → cond stands (cond long (Some (TooLong n)) (cond (past || (is_snapshot x && nat_le allowed.snapshots (snapshots_of before)) || (is_change x && is_inside before && nat_le 65536 (changes_of before))) (Some (TooMany n)) None)) (Some (BadLine n)) ≡ None
+        → cond stands (cond long (Some (TooLong n)) (cond (past || (is_snapshot x && nat_le allowed.snapshots (snapshots_of before)) || (is_change x && is_inside before && nat_le 65536 (count_of_changes before))) (Some (TooMany n)) None)) (Some (BadLine n)) ≡ None
         → length before < allowed.commands
     by false long past is e = absurd (cc)
     by true true past is e = absurd (cc)
@@ -32,7 +32,7 @@ few_lines allowed before n [] script le is = let same : before ≡ script = cc i
 few_lines allowed before n (bytes ∷ lines) script le is =
     by (fault_of allowed before n (said bytes)) refl is (λ none later. few_lines allowed (before ++ line_of n (said bytes)) (n + 1) lines script (line_fits allowed before n (said bytes) le none) later)
   where
-    by : (o : Option ScriptFault) → fault_of allowed before n (said bytes) ≡ o → unless o (script_after allowed (before ++ line_of n (said bytes)) (n + 1) lines) ≡ Ok script
+    by : (o : Option ScriptFault) → fault_of allowed before n (said bytes) ≡ o → with_fault_unless o (script_after allowed (before ++ line_of n (said bytes)) (n + 1) lines) ≡ Ok script
         → (fault_of allowed before n (said bytes) ≡ None → script_after allowed (before ++ line_of n (said bytes)) (n + 1) lines ≡ Ok script → length script ≤ allowed.commands) → length script ≤ allowed.commands
     by None none is rest = rest none is
     by (Some fault) some is rest = absurd (cc)

@@ -2,12 +2,12 @@
 use Rattle.std.proofs.Common.{◌≡◌, ◌≢◌, ◌∙◌, ◌⊎◌, ⊎_elim, ap, refl, inl, inr, arith, ℕ, ◌≤◌, Bool, List, IsTrue, Result, Ok, Err}
 use Rattle.std.specs.Prelude.{IfOk, IfErr}
 use Rattle.frs_types.specs.Records.{Log}
-use Rattle.frs_segment.specs.Segments.{Image, Segment}
+use Rattle.frs_segment.specs.Segments.{FileList, WholeSegment}
 use Rattle.frs_recovery.specs.declared.fault.RecoverFault.{RecoverFault}
 use Rattle.frs_recovery.specs.declared.fault.RecoverFault.TheVariants.{BadHeader, BadChunk, Gap, NumberLimit, Disk, Memory}
 use Rattle.frs_recovery.specs.declared.recovered.Recovered.{Recovered}
 use Rattle.frs_recovery.specs.Answers.{IsRecovered}
-use Rattle.frs_recovery.specs.Faults.{HasDiskCause, IsCauseIn, Gives, Refuses}
+use Rattle.frs_recovery.specs.Faults.{HasRecoverCause, IsCauseOnDisk, GivesRecovered, Refuses}
 use Rattle.frs_recovery.specs.Wrong.{IsWrongFirst}
 use Rattle.frs_text.specs.Text.{Text, stat_text, stat_of, stat_found}
 use Rattle.frs_disk.specs.Disk.{Rose}
@@ -41,7 +41,7 @@ refused_as fault (Err (BadChunk segment offset)) refuses = inl (ap refusal_statu
 refused_as fault (Err (Gap expected found)) refuses = inl (ap refusal_status refuses)
 refused_as fault (Err (NumberLimit lsn)) refuses = inl (ap refusal_status refuses)
 
-pub given_as : (P : Recovered → Type 0) (read : Result Recovered RecoverFault) → Gives P read → IsToldAs 0 (status_read read)
+pub given_as : (P : Recovered → Type 0) (read : Result Recovered RecoverFault) → GivesRecovered P read → IsToldAs 0 (status_read read)
 given_as P (Ok r) gives = inl refl
 given_as P (Err Disk) gives = inr (inl refl)
 given_as P (Err Memory) gives = inr (inr refl)
@@ -52,12 +52,12 @@ given_as P (Err (NumberLimit lsn)) gives = absurd gives
 
 -- ---- the numbers of a store
 
-module _ (law : (image : Image) (segments : List Segment) (log : Log) (r : Recovered) → IsRecovered image segments log r → stat_found r ≡ stat_of segments log)
-    (told : Bool) (image : Image) (before now : ℕ) where
+module _ (law : (image : FileList) (segments : List WholeSegment) (log : Log) (r : Recovered) → IsRecovered image segments log r → stat_found r ≡ stat_of segments log)
+    (told : Bool) (image : FileList) (before now : ℕ) where
   not_compact : {P : Type 0} → Stat ≡ Compact → P
   not_compact is = absurd (cc)
 
-  numbers_told : (r : Recovered) → (IsTrue told → (segments : List Segment) × (log : Log) × IsRecovered image segments log r) → now ≡ before
+  numbers_told : (r : Recovered) → (IsTrue told → (segments : List WholeSegment) × (log : Log) × IsRecovered image segments log r) → now ≡ before
       → IsSaid Stat told image before now 0 (stat_text (stat_found r))
   numbers_told r found same = record {
     known = refl;
@@ -98,7 +98,7 @@ module _ (law : (image : Image) (segments : List Segment) (log : Log) (r : Recov
     steady = steady;
   }
 
-  refusal_told : (fault : RecoverFault) → (IsTrue told → IsCauseIn image fault) → HasDiskCause {X = Recovered} before now (Err fault)
+  refusal_told : (fault : RecoverFault) → (IsTrue told → IsCauseOnDisk image fault) → HasRecoverCause {X = Recovered} before now (Err fault)
       → IsSaid Stat told image before now (refusal_status fault) (refusal_text fault)
   refusal_told Disk why cause = outside_told 3 (refusal_text Disk) refl (inl refl) (λ is. (cause.0, cause.1, refl)) (λ is. absurd (omega arith)) (λ other. absurd (other refl))
   refusal_told Memory why cause = outside_told 9 (refusal_text Memory) refl (inr refl) (λ is. absurd (omega arith)) (λ is. refl) (λ other. cause)
@@ -107,8 +107,8 @@ module _ (law : (image : Image) (segments : List Segment) (log : Log) (r : Recov
   refusal_told (Gap expected found) why cause = wrong_told (Gap expected found) (inl refl) refl why cause
   refusal_told (NumberLimit lsn) why cause = wrong_told (NumberLimit lsn) (inr refl) refl why cause
 
-  pub numbers_said : (read : Result Recovered RecoverFault) → IfOk read (λ r. IsTrue told → (segments : List Segment) × (log : Log) × IsRecovered image segments log r)
-      → (IsTrue told → IfErr read (IsCauseIn image)) → HasDiskCause before now read
+  pub numbers_said : (read : Result Recovered RecoverFault) → IfOk read (λ r. IsTrue told → (segments : List WholeSegment) × (log : Log) × IsRecovered image segments log r)
+      → (IsTrue told → IfErr read (IsCauseOnDisk image)) → HasRecoverCause before now read
       → IsSaid Stat told image before now (finding_status (numbers_finding read)) (finding_text (numbers_finding read))
   numbers_said (Ok r) found why cause = numbers_told r found cause
   numbers_said (Err fault) found why cause = refusal_told fault why cause

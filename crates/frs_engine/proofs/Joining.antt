@@ -7,7 +7,7 @@ use Rattle.frs_disk.specs.Disk.{Image, Passes, Within}
 use Rattle.frs_disk.proofs.Moments.{within_join}
 use Rattle.frs_history.specs.declared.event.Ack.{Ack}
 use Rattle.frs_history.specs.Machine.{Changes}
-use Rattle.frs_engine.specs.Promise.{Shows, ShowsAcked}
+use Rattle.frs_engine.specs.Promise.{ShowsCommits, ShowsAcked}
 use Rattle.frs_engine.specs.Session.{Extends}
 use Rattle.frs_engine.proofs.Showing.{known_more, known_acked}
 
@@ -24,13 +24,13 @@ extends_same old new is = ([], sym is ∙ sym (append-nil old))
 module _ {D : Type 0} (moment : D → ℕ) (left_since : D → ℕ → Image → Type 0) where
   -- what is shown before is shown still, and so is what is left later
   pub all_shown : (old mid new : D) (commits more : List Changes) → Passes moment left_since old mid → Passes moment left_since mid new → Extends commits more
-      → Within moment left_since old mid (Shows commits) → Within moment left_since mid new (Shows more) → Within moment left_since old new (Shows more)
+      → Within moment left_since old mid (ShowsCommits commits) → Within moment left_since mid new (ShowsCommits more) → Within moment left_since old new (ShowsCommits more)
   all_shown old mid new commits more first second extends had has =
-      within_join moment left_since old mid new (Shows more) first second (λ c left. known_more commits more c extends (had c left)) has
+      within_join moment left_since old mid new (ShowsCommits more) first second (λ c left. known_more commits more c extends (had c left)) has
 
   -- the same, where a call leaves what is acknowledged too
   pub shown_join : (old mid new : D) (commits more : List Changes) (acks : List Ack) → Passes moment left_since old mid → Passes moment left_since mid new → Extends commits more
-      → Within moment left_since old mid (Shows commits) → Within moment left_since mid new (ShowsAcked more acks) → Within moment left_since old new (Shows more)
+      → Within moment left_since old mid (ShowsCommits commits) → Within moment left_since mid new (ShowsAcked more acks) → Within moment left_since old new (ShowsCommits more)
   shown_join old mid new commits more acks first second extends had has =
       all_shown old mid new commits more first second extends had (λ c left. known_acked more acks c (has c left))
 

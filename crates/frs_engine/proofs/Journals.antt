@@ -7,25 +7,25 @@ use Rattle.std.proofs.lemmas.Bool.{cases_eq, and_parts, and_from}
 use Rattle.std.proofs.lemmas.List.{map-append, length-map}
 use mathlib.Core.List.{IsPrefix}
 use Rattle.frs_types.specs.declared.record.Record.{Record}
-use Rattle.frs_types.specs.Records.{Log, Placed, placed_from, allowed}
+use Rattle.frs_types.specs.Records.{Log, IsPlaced, are_placed_from, is_allowed}
 use Rattle.frs_disk.specs.declared.disk.Fault.TheVariants.{Failed}
 use Rattle.frs_disk.specs.Disk.{Image, LeftNoFile}
 use Rattle.frs_frame.specs.Spelling.{spelling}
-use Rattle.frs_segment.specs.declared.layout.Segment.{Segment as Described}
+use Rattle.frs_segment.specs.declared.layout.Segment.{Segment}
 use Rattle.frs_segment.specs.Segments.{Spells}
-use Rattle.frs_segment.specs.Scanning.{described}
+use Rattle.frs_segment.specs.Scanning.{places_of_segment}
 use Rattle.frs_segment.specs.Stores.{SpellsAlike}
 use Rattle.frs_slots.specs.Views.{TakerView}
-use Rattle.frs_writer.specs.Groups.{Gathers, IsTooLong, joined}
+use Rattle.frs_writer.specs.Groups.{GathersGroup, IsTooLong, joined_records}
 use Rattle.frs_writer.specs.Places.{number_of_newest, with_newest_grown}
 use Rattle.frs_writer.specs.Shown.{new_segment}
 use Rattle.frs_writer.specs.Writer.{WriterView, IsLog, IsWellOpened, WasEmpty}
 use Rattle.frs_writer.specs.declared.fault.WriteFault.{WriteFault}
 use Rattle.frs_writer.specs.declared.fault.WriteFault.TheVariants as write
-use Rattle.frs_writer.specs.Writing.{HoldsOnly, HoldsLog, HoldsFrom, HasWriteCause, Wrote, is_due, rolled}
+use Rattle.frs_writer.specs.Writing.{HoldsOnly, HoldsLog, HoldsFrom, HasWriteCause, Wrote, is_due, segments_after_roll}
 use Rattle.frs_disk.proofs.NoFiles.{no_entries}
 use Rattle.frs_segment.proofs.Order.{no_files}
-use Rattle.frs_engine.specs.Journal.{HasWritten, HoldsOneMore, log_of, IsOutside, outside, FaultHasCause}
+use Rattle.frs_engine.specs.Journal.{HasWritten, HoldsOneMore, log_of, IsOutsideStop, outside_fault, FaultHasCause}
 
 -- ---- lists
 
@@ -64,44 +64,44 @@ taken_all : {A : Type 0} (xs : List A) → take (length xs) xs ≡ xs
 taken_all [] = refl
 taken_all {A} (x ∷ xs) = ap (λ (l : List A). x ∷ l) (taken_all xs)
 
-placed_front : (k low n : ℕ) (rs : List Record) → placed_from low n rs ≡ true → placed_from low n (take k rs) ≡ true
+placed_front : (k low n : ℕ) (rs : List Record) → are_placed_from low n rs ≡ true → are_placed_from low n (take k rs) ≡ true
 placed_front zero low n rs is = refl
 placed_front (suc k) low n [] is = refl
 placed_front (suc k) low n (r ∷ rs) is =
-    let both = and_parts (allowed n r && nat_le low r.lowest) (placed_from r.lowest (n + 1) rs) is in
+    let both = and_parts (is_allowed n r && nat_le low r.lowest) (are_placed_from r.lowest (n + 1) rs) is in
     and_from _ _ both.0 (placed_front k r.lowest (n + 1) rs both.1)
 
-pub placed_before : (rs : List Record) (r : Record) → Placed (log_of (rs ++ r ∷ [])) → Placed (log_of rs)
-placed_before rs r placed = subst (λ (l : List Record). Placed (log_of l)) (taken_front rs (r ∷ [])) (placed_front (length rs) 0 1 (rs ++ r ∷ []) placed)
+pub placed_before : (rs : List Record) (r : Record) → IsPlaced (log_of (rs ++ r ∷ [])) → IsPlaced (log_of rs)
+placed_before rs r placed = subst (λ (l : List Record). IsPlaced (log_of l)) (taken_front rs (r ∷ [])) (placed_front (length rs) 0 1 (rs ++ r ∷ []) placed)
 
 -- ---- the number of the newest segment
 
-newest_grown : (count body : ℕ) (segments : List Described) → number_of_newest (with_newest_grown count body segments) ≡ number_of_newest segments
+newest_grown : (count body : ℕ) (segments : List Segment) → number_of_newest (with_newest_grown count body segments) ≡ number_of_newest segments
 newest_grown count body [] = refl
 newest_grown count body (s ∷ []) = refl
 newest_grown count body (s ∷ t ∷ []) = refl
 newest_grown count body (s ∷ t ∷ u ∷ segments) = newest_grown count body (t ∷ u ∷ segments)
 
-newest_last : (segments : List Described) (s : Described) → number_of_newest (segments ++ s ∷ []) ≡ s.number
+newest_last : (segments : List Segment) (s : Segment) → number_of_newest (segments ++ s ∷ []) ≡ s.number
 newest_last [] s = refl
 newest_last (t ∷ []) s = refl
 newest_last (t ∷ u ∷ segments) s = newest_last (u ∷ segments) s
 
-newest_rolled : {D : Type 0} (w : WriterView D) → number_of_newest (rolled w) ≤ number_of_newest w.segments + 1
+newest_rolled : {D : Type 0} (w : WriterView D) → number_of_newest (segments_after_roll w) ≤ number_of_newest w.segments + 1
 newest_rolled w = by (is_due w)
   where
-    next : Described
-    next = described (new_segment (number_of_newest w.segments + 1) (w.synced + 1))
+    next : Segment
+    next = places_of_segment (new_segment (number_of_newest w.segments + 1) (w.synced + 1))
 
-    by : (b : Bool) → number_of_newest (cond b (w.segments ++ described (new_segment (number_of_newest w.segments + 1) (w.synced + 1)) ∷ []) w.segments) ≤ number_of_newest w.segments + 1
-    by true = omega (arith, newest_last w.segments (described (new_segment (number_of_newest w.segments + 1) (w.synced + 1))))
+    by : (b : Bool) → number_of_newest (cond b (w.segments ++ places_of_segment (new_segment (number_of_newest w.segments + 1) (w.synced + 1)) ∷ []) w.segments) ≤ number_of_newest w.segments + 1
+    by true = omega (arith, newest_last w.segments (places_of_segment (new_segment (number_of_newest w.segments + 1) (w.synced + 1))))
     by false = omega arith
 
 newest_wrote : {D : Type 0} (limit count : ℕ) (old new : WriterView D) → Wrote limit count old new → number_of_newest new.segments ≤ number_of_newest old.segments + 1
-newest_wrote limit count old new w = subst (λ (s : List Described). number_of_newest s ≤ number_of_newest old.segments + 1) (sym w.segments) (by (nat_lt 0 count))
+newest_wrote limit count old new w = subst (λ (s : List Segment). number_of_newest s ≤ number_of_newest old.segments + 1) (sym w.segments) (by (nat_lt 0 count))
   where
-    by : (b : Bool) → number_of_newest (cond b (with_newest_grown count (length (joined w.group)) (rolled old)) (rolled old)) ≤ number_of_newest old.segments + 1
-    by true = omega (arith, newest_grown count (length (joined w.group)) (rolled old), newest_rolled old)
+    by : (b : Bool) → number_of_newest (cond b (with_newest_grown count (length (joined_records w.group)) (segments_after_roll old)) (segments_after_roll old)) ≤ number_of_newest old.segments + 1
+    by true = omega (arith, newest_grown count (length (joined_records w.group)) (segments_after_roll old), newest_rolled old)
     by false = newest_rolled old
 
 -- ---- a group of one record
@@ -127,7 +127,7 @@ record GathersOne (new : TakerView) (still : Option (List ℕ)) (group : List (L
   none : still ≡ None
   one : length group ≡ 1
 
-gathers_one : (old new : TakerView) (kept still : Option (List ℕ)) (group : List (List ℕ)) (bytes : List ℕ) → Gathers 256 old new kept still group → kept ≡ None
+gathers_one : (old new : TakerView) (kept still : Option (List ℕ)) (group : List (List ℕ)) (bytes : List ℕ) → GathersGroup 256 old new kept still group → kept ≡ None
     → old.known ≡ length old.taken + 1 → IsPrefix new.taken (old.taken ++ bytes ∷ []) → GathersOne new still group old.taken bytes
 gathers_one old new kept still group bytes g none known front = ⊎_elim nothing one (prefix_of_one old.taken g.taken bytes (subst (λ (l : List (List ℕ)). IsPrefix l (old.taken ++ bytes ∷ [])) g.taken_are front))
   where
@@ -239,8 +239,8 @@ module _ {D : Type 0} (tells : D → Bool) (reads : D → Image) (may_leave : D 
         last : n ≢ length rs → n ≤ k → n ≡ length (rs ++ r ∷ [])
         last apart le = omega (arith, apart, from, le, within, h.synced, length-append rs (r ∷ []))
 
-    pub holds_within : (left : Image → Type 0) → IsPrefix new.taker.taken (map spelling (rs ++ r ∷ [])) → Placed (log_of (rs ++ r ∷ []))
-        → (IsWellOpened reads may_leave new.opened → (log : Log) → IsLog reads new log → Placed log → WasEmpty reads new.opened → (c : Image) → left c → HoldsFrom (LeftNoFile may_leave new.opened) old.synced log c)
+    pub holds_within : (left : Image → Type 0) → IsPrefix new.taker.taken (map spelling (rs ++ r ∷ [])) → IsPlaced (log_of (rs ++ r ∷ []))
+        → (IsWellOpened reads may_leave new.opened → (log : Log) → IsLog reads new log → IsPlaced log → WasEmpty reads new.opened → (c : Image) → left c → HoldsFrom (LeftNoFile may_leave new.opened) old.synced log c)
         → (c : Image) → left c → HoldsOneMore rs r c
     holds_within left front placed whole c is_left =
         let (k, within, taken) = prefix_taken spelling new.taker.taken (rs ++ r ∷ []) front in
@@ -265,7 +265,7 @@ module _ {D : Type 0} (tells : D → Bool) (reads : D → Image) (may_leave : D 
     pub synced_is : new.synced ≡ length (rs ++ r ∷ [])
     synced_is = omega (arith, wrote.synced, wrote.counted, gathered.one, h.synced, length-append rs (r ∷ []))
 
-    pub one_written : (IsTrue (tells old.disk) → IsWellOpened reads may_leave new.opened → (log : Log) → IsLog reads new log → Placed log → WasEmpty reads new.opened → (c : Image) → may_leave new.disk c → HoldsLog (LeftNoFile may_leave new.opened) 0 (entries c) (take new.synced log.records))
+    pub one_written : (IsTrue (tells old.disk) → IsWellOpened reads may_leave new.opened → (log : Log) → IsLog reads new log → IsPlaced log → WasEmpty reads new.opened → (c : Image) → may_leave new.disk c → HoldsLog (LeftNoFile may_leave new.opened) 0 (entries c) (take new.synced log.records))
         → HasWritten tells reads may_leave new (rs ++ r ∷ [])
     one_written durable =
         let long : length (rs ++ r ∷ []) ≡ length rs + 1 = length-append rs (r ∷ []) in
@@ -296,14 +296,14 @@ empty_holds c is =
 
 -- ---- why a group wasn't written
 
-pub write_cause : {D : Type 0} (faults : D → ℕ) (old new : WriterView D) (fault : WriteFault) → HasWriteCause {D = D} {X = ℕ} faults old new (Err fault) → IsOutside fault → FaultHasCause (faults old.disk) (faults new.disk) (outside fault)
+pub write_cause : {D : Type 0} (faults : D → ℕ) (old new : WriterView D) (fault : WriteFault) → HasWriteCause {D = D} {X = ℕ} faults old new (Err fault) → IsOutsideStop fault → FaultHasCause (faults old.disk) (faults new.disk) (outside_fault fault)
 write_cause faults old new write.Disk cause is = cause.0
 write_cause faults old new write.Memory cause is = cause.0
 write_cause faults old new (write.Broken before now) cause is = absurd is
 write_cause faults old new (write.NumberLimit number) cause is = absurd is
 
 pub is_outside : {D : Type 0} (tells : D → Bool) (reads : D → Image) (may_leave : D → Image → Type 0) (faults : D → ℕ) (old new : WriterView D) (rs : List Record) (fault : WriteFault)
-    → HasWritten tells reads may_leave old rs → length rs < 2 ^ 41 → HasWriteCause {D = D} {X = ℕ} faults old new (Err fault) → IsOutside fault
+    → HasWritten tells reads may_leave old rs → length rs < 2 ^ 41 → HasWriteCause {D = D} {X = ℕ} faults old new (Err fault) → IsOutsideStop fault
 is_outside tells reads may_leave faults old new rs write.Disk h short cause = tt
 is_outside tells reads may_leave faults old new rs write.Memory h short cause = tt
 is_outside tells reads may_leave faults old new rs (write.Broken before now) h short cause = let none : None ≡ Some Failed = sym h.ended ∙ cause.3 in absurd (cc)

@@ -9,7 +9,7 @@ use Rattle.frs_history.specs.Machine.{Changes}
 use Rattle.frs_frame.specs.Spelling.{spelling}
 use Rattle.frs_segment.specs.Front.{empty_segment}
 use Rattle.frs_segment.specs.Order.{IsInOrder}
-use Rattle.frs_segment.specs.Segments.{File, Segment, IsSegment, segment_spelling}
+use Rattle.frs_segment.specs.Segments.{File, WholeSegment, IsSegment, segment_spelling}
 use Rattle.frs_segment.specs.Stores.{numbers_of}
 use Rattle.frs_engine.specs.Promise.{ShowsPuts}
 
@@ -25,17 +25,17 @@ abbrev commits : List Changes
 commits = (Set (codes "m") (codes "k") (codes "v") ∷ []) ∷ []
 
 -- the marks and the put between them
-abbrev closed : Segment
+abbrev closed : WholeSegment
 closed = record { number = 1; first = 1; chunks = (mark 1 ∷ []) ∷ (put ∷ []) ∷ (mark 2 ∷ []) ∷ [] }
 
 -- the mark of the opening and the put
-abbrev running : Segment
+abbrev running : WholeSegment
 running = record { number = 1; first = 1; chunks = (mark 1 ∷ []) ∷ (put ∷ []) ∷ [] }
 
-abbrev empty : ℕ → ℕ → Segment
+abbrev empty : ℕ → ℕ → WholeSegment
 empty number first = record { number = number; first = first; chunks = [] }
 
-abbrev file_of : Segment → File
+abbrev file_of : WholeSegment → File
 file_of s = (s.number, segment_spelling s ++ 0 ∷ [])
 
 closed_is : IsSegment (file_of closed) closed

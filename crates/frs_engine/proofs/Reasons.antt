@@ -14,8 +14,8 @@ use Rattle.frs_text.specs.declared.script_fault.ScriptFault.{ScriptFault}
 use Rattle.frs_text.specs.declared.script_fault.ScriptFault.TheVariants as script
 use Rattle.frs_engine.specs.declared.report.Ending.{Ending}
 use Rattle.frs_engine.specs.declared.report.Ending.TheVariants.{Closed, Bad, Long, Disk, Unread, Past, Crowded, Memory, Later}
-use Rattle.frs_engine.specs.Causes.{one_file, bytes_of_plan, ending_of_plan, HasOthers, IsForLater, Spells, IsUnread, IsNotYet, IsCause, IsEndOfRun}
-use Rattle.frs_engine.specs.Endings.{parsed, ending_by, ending_of_stop, status_of}
+use Rattle.frs_engine.specs.Causes.{one_file, bytes_of_plan, ending_of_plan, HasOthers, IsForLater, SpellsScript, IsUnread, IsNotYet, IsCause, IsEndOfRun}
+use Rattle.frs_engine.specs.Endings.{script_in, ending_by, ending_of_stop, status_of}
 use Rattle.frs_engine.specs.Promise.{has_puts_and_gets}
 use Rattle.frs_engine.specs.Runs.{Answers, IsSteady, is_status}
 
@@ -40,20 +40,20 @@ not_zero (Demo clients count) is = omega (arith, is)
 
 -- ---- two readings of one file
 
-same_reading : (bytes : Option (List ℕ)) (f g : List ℕ) (x y : Result (List Line) ScriptFault) → bytes ≡ Some f → parsed f ≡ x → bytes ≡ Some g → parsed g ≡ y → x ≡ y
-same_reading bytes f g x y is_f x_is is_g y_is = sym x_is ∙ ap parsed (same_Some f g (sym is_f ∙ is_g)) ∙ y_is
+same_reading : (bytes : Option (List ℕ)) (f g : List ℕ) (x y : Result (List Line) ScriptFault) → bytes ≡ Some f → script_in f ≡ x → bytes ≡ Some g → script_in g ≡ y → x ≡ y
+same_reading bytes f g x y is_f x_is is_g y_is = sym x_is ∙ ap script_in (same_Some f g (sym is_f ∙ is_g)) ∙ y_is
 
-not_both : (bytes : Option (List ℕ)) (f g : List ℕ) (s : List Line) (fault : ScriptFault) → bytes ≡ Some f → parsed f ≡ Ok s → bytes ≡ Some g → parsed g ≡ Err fault → ⊥
+not_both : (bytes : Option (List ℕ)) (f g : List ℕ) (s : List Line) (fault : ScriptFault) → bytes ≡ Some f → script_in f ≡ Ok s → bytes ≡ Some g → script_in g ≡ Err fault → ⊥
 not_both bytes f g s fault is_f ok is_g err = let e = same_reading bytes f g (Ok s) (Err fault) is_f ok is_g err in cc
 
-same_script : (bytes : Option (List ℕ)) (f g : List ℕ) (s t : List Line) → bytes ≡ Some f → parsed f ≡ Ok s → bytes ≡ Some g → parsed g ≡ Ok t → s ≡ t
+same_script : (bytes : Option (List ℕ)) (f g : List ℕ) (s t : List Line) → bytes ≡ Some f → script_in f ≡ Ok s → bytes ≡ Some g → script_in g ≡ Ok t → s ≡ t
 same_script bytes f g s t is_f s_is is_g t_is = let e = same_reading bytes f g (Ok s) (Ok t) is_f s_is is_g t_is in cc
 
-same_fault : (bytes : Option (List ℕ)) (f g : List ℕ) (a b : ScriptFault) → bytes ≡ Some f → parsed f ≡ Err a → bytes ≡ Some g → parsed g ≡ Err b → a ≡ b
+same_fault : (bytes : Option (List ℕ)) (f g : List ℕ) (a b : ScriptFault) → bytes ≡ Some f → script_in f ≡ Err a → bytes ≡ Some g → script_in g ≡ Err b → a ≡ b
 same_fault bytes f g a b is_f a_is is_g b_is = let e = same_reading bytes f g (Err a) (Err b) is_f a_is is_g b_is in cc
 
 -- a script with other commands has no puts and gets alone
-pub no_others : (bytes : Option (List ℕ)) (f : List ℕ) (s : List Line) → bytes ≡ Some f → parsed f ≡ Ok s → IsTrue (has_puts_and_gets s) → HasOthers bytes → ⊥
+pub no_others : (bytes : Option (List ℕ)) (f : List ℕ) (s : List Line) → bytes ≡ Some f → script_in f ≡ Ok s → IsTrue (has_puts_and_gets s) → HasOthers bytes → ⊥
 no_others bytes f s is ok simple (g, t, is_g, t_is, other) =
     let e : true ≡ false = sym simple ∙ ap has_puts_and_gets (same_script bytes f g s t is ok is_g t_is) ∙ other in cc
 
@@ -82,7 +82,7 @@ unread_not_zero plan told bytes failed (Crowded n) u is = omega (arith, is)
 unread_not_zero plan told bytes failed Memory u is = omega (arith, is)
 unread_not_zero plan told bytes failed Later u is = omega (arith, is)
 
-pub unread_others : (plan : RunPlan) (told : Bool) (file : List ℕ → Option (List ℕ)) (failed : Type 0) (e : Ending) → IsTrue told → (f : List ℕ) (s : List Line) → bytes_of_plan plan file ≡ Some f → parsed f ≡ Ok s
+pub unread_others : (plan : RunPlan) (told : Bool) (file : List ℕ → Option (List ℕ)) (failed : Type 0) (e : Ending) → IsTrue told → (f : List ℕ) (s : List Line) → bytes_of_plan plan file ≡ Some f → script_in f ≡ Ok s
     → IsUnread plan told (bytes_of_plan plan file) failed e → (e ≡ Later) ⊎ (e ≡ Unread) ⊎ (e ≡ Memory)
 unread_others plan told file failed Closed t f s is ok u = absurd u
 unread_others plan told file failed (Bad n) t f s is ok u = let (g, is_g, err) = u t in absurd (not_both (bytes_of_plan plan file) f g s (script.BadLine n) is ok is_g err)
@@ -97,7 +97,7 @@ unread_others plan told file failed Later t f s is ok u = inl refl
 -- ---- a run was begun
 
 pub run_cause : (plan : RunPlan) (told : Bool) (bytes : Option (List ℕ)) (rose failed listed : Type 0) (lines : List Line) (events : List Event) (e : Ending) → IsEndOfRun e → (e ≡ Disk → rose) → (e ≡ Later → listed)
-    → (IsTrue told → Spells bytes lines) → IsCause plan told bytes rose failed listed lines events e
+    → (IsTrue told → SpellsScript bytes lines) → IsCause plan told bytes rose failed listed lines events e
 run_cause plan told bytes rose failed listed lines events Closed ends fails lists spells = spells
 run_cause plan told bytes rose failed listed lines events Disk ends fails lists spells = (fails refl, spells)
 run_cause plan told bytes rose failed listed lines events Memory ends fails lists spells = inr spells
@@ -154,7 +154,7 @@ known_status e status before now answers = ⊎_elim (λ same. ap is_status same 
 
 module _ (plan : RunPlan) (told : Bool) (file : List ℕ → Option (List ℕ)) (rose failed listed : Type 0) (lines : List Line) (events : List Event) where
   pub bad_cause : (e : Ending) → IsCause plan told (bytes_of_plan plan file) rose failed listed lines events e → status_of e ≡ 2 → IsTrue told
-      → (f : List ℕ) × (line : ℕ) × (bytes_of_plan plan file ≡ Some f) × ((parsed f ≡ Err (script.BadLine line)) ⊎ (parsed f ≡ Err (script.TooLong line)))
+      → (f : List ℕ) × (line : ℕ) × (bytes_of_plan plan file ≡ Some f) × ((script_in f ≡ Err (script.BadLine line)) ⊎ (script_in f ≡ Err (script.TooLong line)))
   bad_cause (Bad n) c is t = let (f, some, err) = c t in (f, n, some, inl err)
   bad_cause (Long n) c is t = let (f, some, err) = c t in (f, n, some, inr err)
   bad_cause Closed c is t = absurd (omega (arith, is))
@@ -188,7 +188,7 @@ module _ (plan : RunPlan) (told : Bool) (file : List ℕ → Option (List ℕ)) 
   files_cause Later c is = absurd (omega (arith, is))
 
   pub limit_cause : (e : Ending) → IsCause plan told (bytes_of_plan plan file) rose failed listed lines events e → status_of e ≡ 8
-      → ((n : ℕ) × (one_file plan ≡ None) × (ending_of_plan plan ≡ Crowded n)) ⊎ (IsTrue told → (f : List ℕ) × (line : ℕ) × (bytes_of_plan plan file ≡ Some f) × (parsed f ≡ Err (script.TooMany line)))
+      → ((n : ℕ) × (one_file plan ≡ None) × (ending_of_plan plan ≡ Crowded n)) ⊎ (IsTrue told → (f : List ℕ) × (line : ℕ) × (bytes_of_plan plan file ≡ Some f) × (script_in f ≡ Err (script.TooMany line)))
   limit_cause (Crowded n) c is = inl (n, c.0, c.1)
   limit_cause (Past n) c is = inr (λ t. let (f, some, err) = c t in (f, n, some, err))
   limit_cause (Bad n) c is = absurd (omega (arith, is))
@@ -213,7 +213,7 @@ module _ (plan : RunPlan) (told : Bool) (file : List ℕ → Option (List ℕ)) 
   -- ---- which ending what is asked for leads to
 
   -- a file that is refused
-  pub refused_ending : (e : Ending) → IsCause plan told (bytes_of_plan plan file) rose failed listed lines events e → IsTrue told → (f : List ℕ) (fault : ScriptFault) → bytes_of_plan plan file ≡ Some f → parsed f ≡ Err fault
+  pub refused_ending : (e : Ending) → IsCause plan told (bytes_of_plan plan file) rose failed listed lines events e → IsTrue told → (f : List ℕ) (fault : ScriptFault) → bytes_of_plan plan file ≡ Some f → script_in f ≡ Err fault
       → (e ≡ ending_by fault) ⊎ (status_of e ≡ 9) ⊎ (status_of e ≡ 5)
   refused_ending Closed c t f fault is err = let (g, some, ok, simple) = c t in absurd (not_both (bytes_of_plan plan file) g f lines fault some ok is err)
   refused_ending (Bad n) c t f fault is err = let (g, some, wrong) = c t in inl (ap ending_by (same_fault (bytes_of_plan plan file) g f (script.BadLine n) fault some wrong is err))
@@ -231,7 +231,7 @@ module _ (plan : RunPlan) (told : Bool) (file : List ℕ → Option (List ℕ)) 
       c)
 
   -- a script
-  pub script_ending : (e : Ending) → IsCause plan told (bytes_of_plan plan file) rose failed listed lines events e → IsTrue told → (f : List ℕ) (s : List Line) → bytes_of_plan plan file ≡ Some f → parsed f ≡ Ok s
+  pub script_ending : (e : Ending) → IsCause plan told (bytes_of_plan plan file) rose failed listed lines events e → IsTrue told → (f : List ℕ) (s : List Line) → bytes_of_plan plan file ≡ Some f → script_in f ≡ Ok s
       → (e ≡ Closed) ⊎ (e ≡ Disk) ⊎ (e ≡ Unread) ⊎ (e ≡ Memory) ⊎ (e ≡ Later)
   script_ending Closed c t f s is ok = inl refl
   script_ending (Bad n) c t f s is ok = let (g, some, err) = c t in absurd (not_both (bytes_of_plan plan file) f g s (script.BadLine n) is ok some err)
@@ -244,7 +244,7 @@ module _ (plan : RunPlan) (told : Bool) (file : List ℕ → Option (List ℕ)) 
   script_ending Later c t f s is ok = inr (inr (inr (inr refl)))
 
   -- a script of puts and gets, on a disk that lists no file and whose count, as the files', hasn't risen
-  pub whole_ending : (e : Ending) → IsCause plan told (bytes_of_plan plan file) rose failed listed lines events e → IsTrue told → (f : List ℕ) (s : List Line) → bytes_of_plan plan file ≡ Some f → parsed f ≡ Ok s → IsTrue (has_puts_and_gets s)
+  pub whole_ending : (e : Ending) → IsCause plan told (bytes_of_plan plan file) rose failed listed lines events e → IsTrue told → (f : List ℕ) (s : List Line) → bytes_of_plan plan file ≡ Some f → script_in f ≡ Ok s → IsTrue (has_puts_and_gets s)
       → (rose → ⊥) → (failed → ⊥) → (listed → ⊥) → (e ≡ Closed) ⊎ (status_of e ≡ 9)
   whole_ending e c t f s is ok simple steady read empty = ⊎_elim (λ closed. inl closed) (λ a. ⊎_elim
       (λ disk. absurd (steady (disk_cause e c (ap status_of disk))))
@@ -326,7 +326,7 @@ module _ (e : Ending) (status before now : ℕ) (answers : Answers (status_of e)
 
   pub put_off : (plan : RunPlan) (told : Bool) (file : List ℕ → Option (List ℕ)) (seen : Image) (rose failed listed : Type 0) (lines : List Line) (events : List Event) → IsCause plan told (bytes_of_plan plan file) rose failed listed lines events e → IsTrue told
       → (one_file plan ≡ None → e ≡ ending_of_plan plan)
-      → ((f : List ℕ) (s : List Line) → bytes_of_plan plan file ≡ Some f → parsed f ≡ Ok s → has_puts_and_gets s ≡ false → (e ≡ Later) ⊎ (e ≡ Unread) ⊎ (e ≡ Memory))
+      → ((f : List ℕ) (s : List Line) → bytes_of_plan plan file ≡ Some f → script_in f ≡ Ok s → has_puts_and_gets s ≡ false → (e ≡ Later) ⊎ (e ≡ Unread) ⊎ (e ≡ Memory))
       → (keys seen ≢ [] → e ≢ Closed) → IsForLater plan file seen → (status ≡ 10) ⊎ (status ≡ 9) ⊎ (status ≡ 3) ⊎ (status ≡ 5)
   put_off plan told file seen rose failed listed lines events c t several others not_closed later = ⊎_elim
       (λ p. ten (ap status_of (several p.0 ∙ p.1)))

@@ -12,7 +12,7 @@ use Rattle.frs_types.specs.declared.record.Record.{Record}
 use Rattle.frs_types.specs.Records.{has_words}
 use Rattle.frs_types.specs.Maps.{Maps, Table, Change, place_cmp}
 use Rattle.frs_types.specs.Maps.Change.{Set}
-use Rattle.frs_types.specs.Lawful.{Held, plain}
+use Rattle.frs_types.specs.Lawful.{StoredValue, plain_maps}
 use Rattle.frs_disk.specs.Disk.{Image, LeftNoFile}
 use Rattle.frs_frame.specs.Spelling.{spelling}
 use Rattle.frs_history.specs.declared.command.Command.TheVariants as command
@@ -27,8 +27,8 @@ use Rattle.frs_engine.specs.declared.journal.Journal.{Journal}
 use Rattle.frs_engine.specs.declared.session.Run.{Run}
 use Rattle.frs_engine.specs.Entries.{table}
 use Rattle.frs_engine.specs.Journal.{HoldsOneMore}
-use Rattle.frs_engine.specs.Promise.{commits_of_run, owed_acks, puts, puts_by, is_own, Tells, Shows, ShowsPuts, ShowsAcked, ShowsAll, Completes, is_whole_in}
-use Rattle.frs_engine.specs.Session.{drawn, drawn_put, state_at, answer, IsLog, IsAnswered, IsReady, IsToldAlike, IsFresh, commits_so_far, Extends}
+use Rattle.frs_engine.specs.Promise.{commits_of_run, owed_acks, puts, puts_by, is_own, Tells, ShowsCommits, ShowsPuts, ShowsAcked, ShowsAll, Completes, is_whole_in}
+use Rattle.frs_engine.specs.Session.{record_drawn, put_drawn, state_at, answer_event, IsLogOfRun, IsAnswered, IsUnderWay, IsToldAlike, IsFresh, commits_so_far, Extends}
 use Rattle.frs_writer.specs.Writing.{HoldsOnly}
 use Rattle.std.specs.FinMap.{entries}
 use Rattle.frs_engine.proofs.Answering.{put_run, put_commits, put_owed, get_run, get_commits, get_owed, acks_within}
@@ -52,7 +52,7 @@ acked_records : (rs : List Record) (r : Run) (commits more : List Changes) (c : 
 acked_records rs r commits more c a is holds =
     (length rs, length (puts rs), a.within, omega (arith, a.counted), records_show 1 c rs (table r.entries.items) (length rs + 1) commits more a.log is holds)
 
-module _ {D : Type 0} (tells : D → Bool) (reads : D → Image) (may_leave : D → Image → Type 0) (j : Journal D) (r : Run) (ready : IsReady tells reads may_leave j r) where
+module _ {D : Type 0} (tells : D → Bool) (reads : D → Image) (may_leave : D → Image → Type 0) (j : Journal D) (r : Run) (ready : IsUnderWay tells reads may_leave j r) where
   -- the records are as many as were drawn
   pub ready_drawn : length ready.records ≡ length j.drawer.drawn
   ready_drawn = sym (ap length ready.written.drawn.drawn ∙ length-map ready.records spelling)
@@ -81,7 +81,7 @@ module _ {D : Type 0} (tells : D → Bool) (reads : D → Image) (may_leave : D 
 
 -- ---- one more record, of either kind
 
-module _ (rs : List Record) (old : Run) (a : IsAnswered rs old) (r : Record) (u : Table Held) (log : IsLog (rs ++ r ∷ []) u (length rs + 1 + 1)) (commits more : List Changes)
+module _ (rs : List Record) (old : Run) (a : IsAnswered rs old) (r : Record) (u : Table StoredValue) (log : IsLogOfRun (rs ++ r ∷ []) u (length rs + 1 + 1)) (commits more : List Changes)
     (before : commits ≡ each_alone (puts rs) ++ more) (after : commits ≡ each_alone (puts (rs ++ r ∷ []))) where
   pub acked_next : (c : Image) → HoldsOneMore rs r c → ShowsAcked commits old.acks.items c
   acked_next c holds = ⊎_elim
@@ -95,8 +95,8 @@ module _ (rs : List Record) (old : Run) (a : IsAnswered rs old) (r : Record) (u 
       ))
       holds
 
-log_at : (rs : List Record) (t u : Table Held) (n m : ℕ) → t ≡ u → n ≡ m → IsLog rs t n → IsLog rs u m
-log_at rs t u n m tu nm log = subst (λ (k : ℕ). IsLog rs u k) nm (subst (λ (x : Table Held). IsLog rs x n) tu log)
+log_at : (rs : List Record) (t u : Table StoredValue) (n m : ℕ) → t ≡ u → n ≡ m → IsLogOfRun rs t n → IsLogOfRun rs u m
+log_at rs t u n m tu nm log = subst (λ (k : ℕ). IsLogOfRun rs u k) nm (subst (λ (x : Table StoredValue). IsLogOfRun rs x n) tu log)
 
 one_longer : (rs : List Record) (r : Record) → length rs + 1 + 1 ≡ length (rs ++ r ∷ []) + 1
 one_longer rs r = omega (arith, length-append rs (r ∷ []))
@@ -104,23 +104,23 @@ one_longer rs r = omega (arith, length-append rs (r ∷ []))
 -- ---- a mark
 
 module _ (rs : List Record) (run : Run) (a : IsAnswered rs run) (n : ℕ) (next : n ≡ length rs + 1) where
-  mark_puts : puts (rs ++ drawn (table run.entries.items) n 0 action.Mark ∷ []) ≡ puts rs
-  mark_puts = puts-push rs (drawn (table run.entries.items) n 0 action.Mark) ∙ append-nil (puts rs)
+  mark_puts : puts (rs ++ record_drawn (table run.entries.items) n 0 action.Mark ∷ []) ≡ puts rs
+  mark_puts = puts-push rs (record_drawn (table run.entries.items) n 0 action.Mark) ∙ append-nil (puts rs)
 
   pub mark_before : commits_so_far run ≡ each_alone (puts rs) ++ []
   mark_before = a.commits ∙ sym (append-nil (each_alone (puts rs)))
 
-  pub mark_after : commits_so_far run ≡ each_alone (puts (rs ++ drawn (table run.entries.items) n 0 action.Mark ∷ []))
+  pub mark_after : commits_so_far run ≡ each_alone (puts (rs ++ record_drawn (table run.entries.items) n 0 action.Mark ∷ []))
   mark_after = a.commits ∙ ap each_alone (sym mark_puts)
 
-  pub mark_log : (rs ≡ []) ⊎ (length rs ≡ length (puts rs) + 1) → IsLog (rs ++ drawn (table run.entries.items) n 0 action.Mark ∷ []) (table run.entries.items) (length rs + 1 + 1)
+  pub mark_log : (rs ≡ []) ⊎ (length rs ≡ length (puts rs) + 1) → IsLogOfRun (rs ++ record_drawn (table run.entries.items) n 0 action.Mark ∷ []) (table run.entries.items) (length rs + 1 + 1)
   mark_log so_far =
-      subst (λ (k : ℕ). IsLog (rs ++ drawn (table run.entries.items) k 0 action.Mark ∷ []) (table run.entries.items) (length rs + 1 + 1)) (sym next)
+      subst (λ (k : ℕ). IsLogOfRun (rs ++ record_drawn (table run.entries.items) k 0 action.Mark ∷ []) (table run.entries.items) (length rs + 1 + 1)) (sym next)
       (log-mark rs (table run.entries.items) (length rs + 1) a.log so_far)
 
-  pub mark_answered : (rs ≡ []) ⊎ (length rs ≡ length (puts rs) + 1) → IsAnswered (rs ++ drawn (table run.entries.items) n 0 action.Mark ∷ []) run
+  pub mark_answered : (rs ≡ []) ⊎ (length rs ≡ length (puts rs) + 1) → IsAnswered (rs ++ record_drawn (table run.entries.items) n 0 action.Mark ∷ []) run
   mark_answered so_far =
-      let r : Record = drawn (table run.entries.items) n 0 action.Mark in
+      let r : Record = record_drawn (table run.entries.items) n 0 action.Mark in
       record {
         log = log_at (rs ++ r ∷ []) _ _ _ _ refl (one_longer rs r) (mark_log so_far);
         machine = a.machine;
@@ -134,21 +134,21 @@ module _ (rs : List Record) (run : Run) (a : IsAnswered rs run) (n : ℕ) (next 
 -- ---- a put
 
 module _ (rs : List Record) (old new : Run) (a : IsAnswered rs old) (lsn : ℕ) (drawn_next : lsn ≡ length rs + 1) (n : ℕ) (id key value : List ℕ) (next : slice_get old.script.now old.done ≡ Some (record { number = n; command = command.Put id key value }))
-    (script : new.script ≡ old.script) (events : new.events.items ≡ old.events.items ++ answer n reply.Done ∷ []) where
-  pub put_machine : run (new.script.now ∷ []) (start [] 0 1) new.events.items ≡ Some (state_at (put place_cmp (id, key) value (plain (table old.entries.items))) (old.done + 1))
+    (script : new.script ≡ old.script) (events : new.events.items ≡ old.events.items ++ answer_event n reply.Done ∷ []) where
+  pub put_machine : run (new.script.now ∷ []) (start [] 0 1) new.events.items ≡ Some (state_at (put place_cmp (id, key) value (plain_maps (table old.entries.items))) (old.done + 1))
   put_machine =
       ap (λ (s : List Line). run (s ∷ []) (start [] 0 1) new.events.items) (ap (λ s. s.now) script)
       ∙ ap (run (old.script.now ∷ []) (start [] 0 1)) events
-      ∙ put_run old.script.now old.events.items (plain (table old.entries.items)) old.done n a.machine id key value next
+      ∙ put_run old.script.now old.events.items (plain_maps (table old.entries.items)) old.done n a.machine id key value next
 
   pub put_commits_so_far : commits_so_far new ≡ commits_so_far old ++ (Set id key value ∷ []) ∷ []
   put_commits_so_far =
       ap (λ (s : List Line). commits_of_run s new.events.items) (ap (λ s. s.now) script)
       ∙ ap (commits_of_run old.script.now) events
-      ∙ put_commits old.script.now old.events.items (plain (table old.entries.items)) old.done n a.machine id key value next
+      ∙ put_commits old.script.now old.events.items (plain_maps (table old.entries.items)) old.done n a.machine id key value next
 
   put_own : list_all is_own new.events.items ≡ true
-  put_own = ap (list_all is_own) events ∙ list_all-append is_own old.events.items (answer n reply.Done ∷ []) ∙ and_from _ _ a.own refl
+  put_own = ap (list_all is_own) events ∙ list_all-append is_own old.events.items (answer_event n reply.Done ∷ []) ∙ and_from _ _ a.own refl
 
   pub put_extends : Extends (commits_so_far old) (commits_so_far new)
   put_extends = ((Set id key value ∷ []) ∷ [], put_commits_so_far)
@@ -156,17 +156,17 @@ module _ (rs : List Record) (old new : Run) (a : IsAnswered rs old) (lsn : ℕ) 
   pub put_before : commits_so_far new ≡ each_alone (puts rs) ++ (Set id key value ∷ []) ∷ []
   put_before = put_commits_so_far ∙ ap (λ (cs : List Changes). cs ++ (Set id key value ∷ []) ∷ []) a.commits
 
-  puts_next : puts (rs ++ drawn_put (table old.entries.items) lsn id key value ∷ []) ≡ puts rs ++ Set id key value ∷ []
-  puts_next = puts-push rs (drawn_put (table old.entries.items) lsn id key value)
+  puts_next : puts (rs ++ put_drawn (table old.entries.items) lsn id key value ∷ []) ≡ puts rs ++ Set id key value ∷ []
+  puts_next = puts-push rs (put_drawn (table old.entries.items) lsn id key value)
 
-  pub put_after : commits_so_far new ≡ each_alone (puts (rs ++ drawn_put (table old.entries.items) lsn id key value ∷ []))
+  pub put_after : commits_so_far new ≡ each_alone (puts (rs ++ put_drawn (table old.entries.items) lsn id key value ∷ []))
   put_after = put_before ∙ sym (map-append (λ (c : Change (List ℕ)). c ∷ []) (puts rs) (Set id key value ∷ [])) ∙ ap each_alone (sym puts_next)
 
   put_acks : length rs ≡ length old.acks.items + 1 → owed_acks new.script.now new.events.items ≡ old.acks.items ++ record { client = 1; line = n; lsn = lsn } ∷ []
   put_acks marks =
       ap (λ (s : List Line). owed_acks s new.events.items) (ap (λ s. s.now) script)
       ∙ ap (owed_acks old.script.now) events
-      ∙ put_owed old.script.now old.events.items (plain (table old.entries.items)) old.done n a.machine id key value next
+      ∙ put_owed old.script.now old.events.items (plain_maps (table old.entries.items)) old.done n a.machine id key value next
       ∙ ap (λ (acks : List Ack). acks ++ record { client = 1; line = n; lsn = 2 + length acks } ∷ []) (sym a.acks)
       ∙ ap (λ (k : ℕ). old.acks.items ++ record { client = 1; line = n; lsn = k } ∷ []) (omega (arith, marks, drawn_next))
 
@@ -181,26 +181,26 @@ module _ (rs : List Record) (old new : Run) (a : IsAnswered rs old) (lsn : ℕ) 
   }
 
   pub put_log : length rs ≡ length old.acks.items + 1 → has_words (action.Put id key value) ≡ true
-      → IsLog (rs ++ drawn_put (table old.entries.items) lsn id key value ∷ []) (put place_cmp (id, key) (record { value = value; lsn = lsn }) (table old.entries.items)) (length rs + 1 + 1)
+      → IsLogOfRun (rs ++ put_drawn (table old.entries.items) lsn id key value ∷ []) (put place_cmp (id, key) (record { value = value; lsn = lsn }) (table old.entries.items)) (length rs + 1 + 1)
   put_log marks words =
-      subst (λ (k : ℕ). IsLog (rs ++ drawn_put (table old.entries.items) k id key value ∷ []) (put place_cmp (id, key) (record { value = value; lsn = k }) (table old.entries.items)) (length rs + 1 + 1)) (sym drawn_next)
+      subst (λ (k : ℕ). IsLogOfRun (rs ++ put_drawn (table old.entries.items) k id key value ∷ []) (put place_cmp (id, key) (record { value = value; lsn = k }) (table old.entries.items)) (length rs + 1 + 1)) (sym drawn_next)
       (log-put rs (table old.entries.items) (length rs + 1) a.log id key value words (omega (arith, marks, a.counted)))
 
   pub put_answered : length rs ≡ length old.acks.items + 1 → has_words (action.Put id key value) ≡ true
       → table new.entries.items ≡ put place_cmp (id, key) (record { value = value; lsn = lsn }) (table old.entries.items)
       → new.acks.items ≡ old.acks.items ++ record { client = 1; line = n; lsn = lsn } ∷ []
       → new.done ≡ old.done + 1
-      → IsAnswered (rs ++ drawn_put (table old.entries.items) lsn id key value ∷ []) new
+      → IsAnswered (rs ++ put_drawn (table old.entries.items) lsn id key value ∷ []) new
   put_answered marks words entries_are acks done =
-      let r : Record = drawn_put (table old.entries.items) lsn id key value in
-      let held : Held = record { value = value; lsn = lsn } in
+      let r : Record = put_drawn (table old.entries.items) lsn id key value in
+      let held : StoredValue = record { value = value; lsn = lsn } in
       let long : length (rs ++ r ∷ []) ≡ length rs + 1 = length-append rs (r ∷ []) in
       let last : nat_le lsn (length (rs ++ r ∷ [])) ≡ true = le-leb lsn (length (rs ++ r ∷ [])) (omega (arith, long, drawn_next)) in
       record {
         log = log_at (rs ++ r ∷ []) _ (table new.entries.items) _ _ (sym entries_are) (one_longer rs r) (put_log marks words);
         machine = put_machine ∙ ap (λ (m : Maps). Some (state_at m (old.done + 1))) (sym (plain-put (id, key) held (table old.entries.items)))
-            ∙ ap (λ (t : Table Held). Some (state_at (plain t) (old.done + 1))) (sym entries_are)
-            ∙ ap (λ (k : ℕ). Some (state_at (plain (table new.entries.items)) k)) (sym done);
+            ∙ ap (λ (t : Table StoredValue). Some (state_at (plain_maps t) (old.done + 1))) (sym entries_are)
+            ∙ ap (λ (k : ℕ). Some (state_at (plain_maps (table new.entries.items)) k)) (sym done);
         own = put_own;
         commits = put_after;
         acks = acks ∙ sym (put_acks marks);
@@ -213,9 +213,9 @@ module _ (rs : List Record) (old new : Run) (a : IsAnswered rs old) (lsn : ℕ) 
 -- ---- a get
 
 module _ (rs : List Record) (old new : Run) (a : IsAnswered rs old) (n : ℕ) (id key : List ℕ) (next : slice_get old.script.now old.done ≡ Some (record { number = n; command = command.Get id key }))
-    (script : new.script ≡ old.script) (r : Reply) (says : r ≡ value_or_none (option_map (λ (h : Held). h.value) (find place_cmp (id, key) (table old.entries.items)))) (events : new.events.items ≡ old.events.items ++ answer n r ∷ []) where
-  get_events : new.events.items ≡ old.events.items ++ answer n (value_or_none (find place_cmp (id, key) (plain (table old.entries.items)))) ∷ []
-  get_events = events ∙ ap (λ (x : Reply). old.events.items ++ answer n x ∷ []) (says ∙ ap value_or_none (sym (find-plain (id, key) (table old.entries.items))))
+    (script : new.script ≡ old.script) (r : Reply) (says : r ≡ value_or_none (option_map (λ (h : StoredValue). h.value) (find place_cmp (id, key) (table old.entries.items)))) (events : new.events.items ≡ old.events.items ++ answer_event n r ∷ []) where
+  get_events : new.events.items ≡ old.events.items ++ answer_event n (value_or_none (find place_cmp (id, key) (plain_maps (table old.entries.items)))) ∷ []
+  get_events = events ∙ ap (λ (x : Reply). old.events.items ++ answer_event n x ∷ []) (says ∙ ap value_or_none (sym (find-plain (id, key) (table old.entries.items))))
 
   pub get_answered : new.entries ≡ old.entries → new.acks ≡ old.acks → new.done ≡ old.done + 1 → IsAnswered rs new
   get_answered entries_are acks done =
@@ -226,17 +226,17 @@ module _ (rs : List Record) (old new : Run) (a : IsAnswered rs old) (n : ℕ) (i
         log = log_at rs _ (table new.entries.items) _ _ tables refl a.log;
         machine = ap (λ (s : List Line). run (s ∷ []) (start [] 0 1) new.events.items) lines
             ∙ ap (run (old.script.now ∷ []) (start [] 0 1)) get_events
-            ∙ get_run old.script.now old.events.items (plain (table old.entries.items)) old.done n a.machine id key next
-            ∙ ap (λ (t : Table Held). Some (state_at (plain t) (old.done + 1))) tables
-            ∙ ap (λ (k : ℕ). Some (state_at (plain (table new.entries.items)) k)) (sym done);
-        own = ap (list_all is_own) events ∙ list_all-append is_own old.events.items (answer n r ∷ []) ∙ and_from _ _ a.own refl;
+            ∙ get_run old.script.now old.events.items (plain_maps (table old.entries.items)) old.done n a.machine id key next
+            ∙ ap (λ (t : Table StoredValue). Some (state_at (plain_maps t) (old.done + 1))) tables
+            ∙ ap (λ (k : ℕ). Some (state_at (plain_maps (table new.entries.items)) k)) (sym done);
+        own = ap (list_all is_own) events ∙ list_all-append is_own old.events.items (answer_event n r ∷ []) ∙ and_from _ _ a.own refl;
         commits = ap (λ (s : List Line). commits_of_run s new.events.items) lines
             ∙ ap (commits_of_run old.script.now) get_events
-            ∙ get_commits old.script.now old.events.items (plain (table old.entries.items)) old.done n a.machine id key next
+            ∙ get_commits old.script.now old.events.items (plain_maps (table old.entries.items)) old.done n a.machine id key next
             ∙ a.commits;
         acks = told ∙ a.acks ∙ sym (ap (λ (s : List Line). owed_acks s new.events.items) lines
             ∙ ap (owed_acks old.script.now) get_events
-            ∙ get_owed old.script.now old.events.items (plain (table old.entries.items)) old.done n a.machine id key next);
+            ∙ get_owed old.script.now old.events.items (plain_maps (table old.entries.items)) old.done n a.machine id key next);
         within = ap (list_all (λ (x : Ack). nat_le x.lsn (length rs))) told ∙ a.within;
         counted = ap length told ∙ a.counted;
       }
@@ -261,8 +261,8 @@ fresh_commits r f = ap (commits_of_run r.script.now) f.events
 pub fresh_answered : (r : Run) → IsFresh r → IsAnswered [] r
 fresh_answered r f = record {
   log = log_at [] [] (table r.entries.items) 1 1 (ap table (sym f.entries)) refl log_start;
-  machine = ap (run (r.script.now ∷ []) (start [] 0 1)) f.events ∙ ap (λ es. Some (state_at (plain (table es)) 0)) (sym f.entries)
-      ∙ ap (λ (k : ℕ). Some (state_at (plain (table r.entries.items)) k)) (sym f.done);
+  machine = ap (run (r.script.now ∷ []) (start [] 0 1)) f.events ∙ ap (λ es. Some (state_at (plain_maps (table es)) 0)) (sym f.entries)
+      ∙ ap (λ (k : ℕ). Some (state_at (plain_maps (table r.entries.items)) k)) (sym f.done);
   own = ap (list_all is_own) f.events;
   commits = fresh_commits r f;
   acks = f.acks ∙ sym (ap (owed_acks r.script.now) f.events);
@@ -282,5 +282,5 @@ answered_completes rs r a done =
     }
 
 -- without a record no put is shown
-pub none_shown : (c : Image) (commits : List Changes) → HoldsOnly 1 (entries c) [] → Shows commits c
+pub none_shown : (c : Image) (commits : List Changes) → HoldsOnly 1 (entries c) [] → ShowsCommits commits c
 none_shown c commits holds = (0, 0, records_show 1 c [] [] 1 commits commits log_start refl holds)

@@ -7,18 +7,18 @@ use Rattle.frs_history.specs.declared.event.Event.{Event}
 use Rattle.frs_disk.specs.Outside.{AddsPartOf}
 use Rattle.frs_text.specs.Text.{Text, event_line, ack_line, transcript}
 use Rattle.frs_engine.specs.declared.report.Ending.{Ending}
-use Rattle.frs_engine.specs.Endings.{line_of, has_transcript, text_of}
+use Rattle.frs_engine.specs.Endings.{last_line_of, has_transcript, text_of}
 use Rattle.frs_engine.specs.Runs.{Prints, PrintsAll}
 
-pub alone_text : (e : Ending) (script : List Line) (events : List Event) (acks : List Ack) → has_transcript e ≡ false → text_of e script events acks ≡ line_of e
-alone_text e script events acks alone = ap (λ (b : Bool). cond b (transcript (script ∷ []) events acks (line_of e)) (line_of e)) alone
+pub alone_text : (e : Ending) (script : List Line) (events : List Event) (acks : List Ack) → has_transcript e ≡ false → text_of e script events acks ≡ last_line_of e
+alone_text e script events acks alone = ap (λ (b : Bool). cond b (transcript (script ∷ []) events acks (last_line_of e)) (last_line_of e)) alone
 
 -- the lines of events and acknowledgements
 abbrev pub said : List Line → List Event → List Ack → Text
 said script events acks = flat_map (event_line (script ∷ [])) events ++ flat_map ack_line acks
 
-pub run_text : (e : Ending) (script : List Line) (events : List Event) (acks : List Ack) → has_transcript e ≡ true → text_of e script events acks ≡ said script events acks ++ line_of e
-run_text e script events acks more = ap (λ (b : Bool). cond b (transcript (script ∷ []) events acks (line_of e)) (line_of e)) more
+pub run_text : (e : Ending) (script : List Line) (events : List Event) (acks : List Ack) → has_transcript e ≡ true → text_of e script events acks ≡ said script events acks ++ last_line_of e
+run_text e script events acks more = ap (λ (b : Bool). cond b (transcript (script ∷ []) events acks (last_line_of e)) (last_line_of e)) more
 
 -- ---- what a sink took
 

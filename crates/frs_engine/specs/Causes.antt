@@ -9,7 +9,7 @@ use Rattle.frs_text.specs.declared.plan.RunPlan.TheVariants.{Scripts, Demo}
 use Rattle.frs_text.specs.declared.script_fault.ScriptFault.TheVariants.{BadLine, TooLong, TooMany}
 use Rattle.frs_engine.specs.declared.report.Ending.{Ending}
 use Rattle.frs_engine.specs.declared.report.Ending.TheVariants.{Closed, Bad, Long, Disk, Unread, Past, Crowded, Memory, Later}
-use Rattle.frs_engine.specs.Endings.{parsed}
+use Rattle.frs_engine.specs.Endings.{script_in}
 use Rattle.frs_engine.specs.Promise.{has_puts_and_gets}
 
 -- ---- the plan
@@ -33,11 +33,11 @@ ending_of_plan (Demo clients count) = Later
 
 -- there are bytes, and they spell a script with a command that is no put and no get
 abbrev pub HasOthers : Option (List ℕ) → Type 0
-HasOthers bytes = (file : List ℕ) × (script : List Line) × (bytes ≡ Some file) × (parsed file ≡ Ok script) × (has_puts_and_gets script ≡ false)
+HasOthers bytes = (file : List ℕ) × (script : List Line) × (bytes ≡ Some file) × (script_in file ≡ Ok script) × (has_puts_and_gets script ≡ false)
 
 -- there are bytes, and they spell a script
 abbrev pub IsScript : Option (List ℕ) → Type 0
-IsScript bytes = (file : List ℕ) × (script : List Line) × (bytes ≡ Some file) × (parsed file ≡ Ok script)
+IsScript bytes = (file : List ℕ) × (script : List Line) × (bytes ≡ Some file) × (script_in file ≡ Ok script)
 
 -- There are 2 to 64 files, or a demo is asked for; or the script has a command that is no put and no get; or it is a
 -- script, and the disk lists a file.
@@ -49,11 +49,11 @@ IsForLater plan file seen =
 -- are told; `failed` says that the files' count has risen.
 abbrev pub IsUnread : RunPlan → Bool → Option (List ℕ) → Type 0 → Ending → Type 0
 IsUnread plan told bytes failed Closed = ⊥
-IsUnread plan told bytes failed (Bad n) = IsTrue told → (file : List ℕ) × (bytes ≡ Some file) × (parsed file ≡ Err (BadLine n))
-IsUnread plan told bytes failed (Long n) = IsTrue told → (file : List ℕ) × (bytes ≡ Some file) × (parsed file ≡ Err (TooLong n))
+IsUnread plan told bytes failed (Bad n) = IsTrue told → (file : List ℕ) × (bytes ≡ Some file) × (script_in file ≡ Err (BadLine n))
+IsUnread plan told bytes failed (Long n) = IsTrue told → (file : List ℕ) × (bytes ≡ Some file) × (script_in file ≡ Err (TooLong n))
 IsUnread plan told bytes failed Disk = ⊥
 IsUnread plan told bytes failed Unread = failed
-IsUnread plan told bytes failed (Past n) = IsTrue told → (file : List ℕ) × (bytes ≡ Some file) × (parsed file ≡ Err (TooMany n))
+IsUnread plan told bytes failed (Past n) = IsTrue told → (file : List ℕ) × (bytes ≡ Some file) × (script_in file ≡ Err (TooMany n))
 IsUnread plan told bytes failed (Crowded n) = (one_file plan ≡ None) × (ending_of_plan plan ≡ Crowded n)
 IsUnread plan told bytes failed Memory = Unit {0}
 IsUnread plan told bytes failed Later = ((one_file plan ≡ None) × (ending_of_plan plan ≡ Later)) ⊎ (IsTrue told → HasOthers bytes)
@@ -61,8 +61,8 @@ IsUnread plan told bytes failed Later = ((one_file plan ≡ None) × (ending_of_
 -- ---- causes
 
 -- the bytes spell this script, of puts and gets alone
-abbrev pub Spells : Option (List ℕ) → List Line → Type 0
-Spells bytes script = (file : List ℕ) × (bytes ≡ Some file) × (parsed file ≡ Ok script) × IsTrue (has_puts_and_gets script)
+abbrev pub SpellsScript : Option (List ℕ) → List Line → Type 0
+SpellsScript bytes script = (file : List ℕ) × (bytes ≡ Some file) × (script_in file ≡ Ok script) × IsTrue (has_puts_and_gets script)
 
 -- Why a run isn't built yet: by its plan, by its script, or since the disk lists a file.
 abbrev pub IsNotYet : RunPlan → Bool → Option (List ℕ) → Type 0 → Type 0
@@ -72,9 +72,9 @@ IsNotYet plan told bytes listed =
 -- What led to an ending. `bytes` are those of the one file, where they are told; `rose` and `failed` say that the disk's and
 -- the files' count has risen, and `listed` that the disk lists a file.
 abbrev pub IsCause : RunPlan → Bool → Option (List ℕ) → Type 0 → Type 0 → Type 0 → List Line → List Event → Ending → Type 0
-IsCause plan told bytes rose failed listed script events Closed = IsTrue told → Spells bytes script
-IsCause plan told bytes rose failed listed script events Disk = rose × (IsTrue told → Spells bytes script)
-IsCause plan told bytes rose failed listed script events Memory = (events ≡ []) ⊎ (IsTrue told → Spells bytes script)
+IsCause plan told bytes rose failed listed script events Closed = IsTrue told → SpellsScript bytes script
+IsCause plan told bytes rose failed listed script events Disk = rose × (IsTrue told → SpellsScript bytes script)
+IsCause plan told bytes rose failed listed script events Memory = (events ≡ []) ⊎ (IsTrue told → SpellsScript bytes script)
 IsCause plan told bytes rose failed listed script events Later = IsNotYet plan told bytes listed
 IsCause plan told bytes rose failed listed script events other = IsUnread plan told bytes failed other
 

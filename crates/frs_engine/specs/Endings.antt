@@ -15,8 +15,8 @@ use Rattle.frs_engine.specs.declared.report.Ending.TheVariants.{Closed, Bad, Lon
 -- ---- scripts
 
 -- the script that the bytes of the one file spell: of at most so many commands and snapshots
-abbrev pub parsed : List ℕ → Result (List Line) ScriptFault
-parsed bytes = script_of (up_to 1000000 64) bytes
+abbrev pub script_in : List ℕ → Result (List Line) ScriptFault
+script_in bytes = script_of (up_to 1000000 64) bytes
 
 -- how a run ends whose script is refused
 abbrev pub ending_by : ScriptFault → Ending
@@ -49,16 +49,16 @@ abbrev pub script_line : ℕ → Text → Text
 script_line n why = line (codes "script" ∷ codes "1" ∷ codes "line" ∷ decimal n ∷ why ∷ [])
 
 -- its last line
-abbrev pub line_of : Ending → Text
-line_of Closed = line (codes "closed" ∷ [])
-line_of (Bad n) = script_line n (codes "bad")
-line_of (Long n) = script_line n (codes "long")
-line_of Disk = line (codes "stopped" ∷ codes "disk" ∷ [])
-line_of Unread = line (codes "file" ∷ codes "1" ∷ codes "unread" ∷ [])
-line_of (Past n) = script_line n (codes "limit")
-line_of (Crowded n) = line (codes "limit" ∷ codes "clients" ∷ decimal n ∷ [])
-line_of Memory = line (codes "stopped" ∷ codes "memory" ∷ [])
-line_of Later = line (codes "later" ∷ [])
+abbrev pub last_line_of : Ending → Text
+last_line_of Closed = line (codes "closed" ∷ [])
+last_line_of (Bad n) = script_line n (codes "bad")
+last_line_of (Long n) = script_line n (codes "long")
+last_line_of Disk = line (codes "stopped" ∷ codes "disk" ∷ [])
+last_line_of Unread = line (codes "file" ∷ codes "1" ∷ codes "unread" ∷ [])
+last_line_of (Past n) = script_line n (codes "limit")
+last_line_of (Crowded n) = line (codes "limit" ∷ codes "clients" ∷ decimal n ∷ [])
+last_line_of Memory = line (codes "stopped" ∷ codes "memory" ∷ [])
+last_line_of Later = line (codes "later" ∷ [])
 
 -- something was run, or might have been: the transcript stands before the last line
 abbrev pub has_transcript : Ending → Bool
@@ -69,4 +69,4 @@ has_transcript other = false
 
 -- the whole text
 abbrev pub text_of : Ending → List Line → List Event → List Ack → Text
-text_of e script events acks = if has_transcript e then transcript (script ∷ []) events acks (line_of e) else line_of e
+text_of e script events acks = if has_transcript e then transcript (script ∷ []) events acks (last_line_of e) else last_line_of e

@@ -2,7 +2,7 @@
 use Rattle.std.specs.Prelude.{◌≡◌, ◌⊎◌, ℕ, ◌+◌, ◌≤◌, Bool, List, [], ◌∷◌, ◌++◌, length, map, None, Result, Ok, Err, IsTrue}
 use Rattle.std.specs.FinMap.{entries, empty}
 use Rattle.frs_types.specs.declared.record.Record.{Record}
-use Rattle.frs_types.specs.Records.{Log, Placed}
+use Rattle.frs_types.specs.Records.{Log, IsPlaced}
 use Rattle.frs_disk.specs.declared.disk.Fault.{Fault}
 use Rattle.frs_disk.specs.declared.disk.Fault.TheVariants.{Failed, Memory}
 use Rattle.frs_disk.specs.Disk.{Image, Rose, LeftNoFile}
@@ -33,7 +33,7 @@ pub record HasWritten {D : Type 0} (tells : D → Bool) (reads : D → Image) (m
   pub noted : (lsn : ℕ) × (w.noted ≡ lsn ∷ []) × (lsn ≤ length records)
   pub told : tells w.disk ≡ tells w.opened
   pub opened : IsTrue (tells w.opened) → reads w.opened ≡ empty
-  pub holds : IsTrue (tells w.disk) → LeftNoFile may_leave w.opened → Placed (log_of records) → (c : Image) → may_leave w.disk c → HoldsOnly 0 (entries c) records
+  pub holds : IsTrue (tells w.disk) → LeftNoFile may_leave w.opened → IsPlaced (log_of records) → (c : Image) → may_leave w.disk c → HoldsOnly 0 (entries c) records
 
 -- the two ends are of one ring, on which these records were drawn
 pub record HasDrawn {D : Type 0} (j : Journal D) (records : List Record) : Type 0 where
@@ -65,14 +65,14 @@ HoldsOneMore records r c = HoldsOnly 1 (entries c) records ⊎ HoldsOnly 1 (entr
 -- ---- why a call was refused
 
 -- the disk or memory has failed in this call
-abbrev pub IsOutside : WriteFault → Type 0
-IsOutside write.Disk = Unit {0}
-IsOutside write.Memory = Unit {0}
-IsOutside other = ⊥
+abbrev pub IsOutsideStop : WriteFault → Type 0
+IsOutsideStop write.Disk = Unit {0}
+IsOutsideStop write.Memory = Unit {0}
+IsOutsideStop other = ⊥
 
-abbrev pub outside : WriteFault → Fault
-outside write.Disk = Failed
-outside other = Memory
+abbrev pub outside_fault : WriteFault → Fault
+outside_fault write.Disk = Failed
+outside_fault other = Memory
 
 -- the disk only where its count has risen, and else the count is as it was
 abbrev pub FaultHasCause : ℕ → ℕ → Fault → Type 0

@@ -5,11 +5,11 @@ use Rattle.frs_types.specs.Records.{Log}
 use Rattle.frs_types.specs.Maps.{same_place}
 use Rattle.frs_types.specs.Survivors.{survivors, maps_of}
 use Rattle.frs_disk.specs.Disk.{Rose}
-use Rattle.frs_segment.specs.Segments.{Image, Segment, SpellsBy}
+use Rattle.frs_segment.specs.Segments.{FileList, WholeSegment, SpellsBy}
 use Rattle.frs_recovery.specs.declared.fault.RecoverFault.{RecoverFault}
 use Rattle.frs_recovery.specs.declared.fault.RecoverFault.TheVariants.{BadHeader, BadChunk, Gap, NumberLimit, Disk, Memory}
 use Rattle.frs_recovery.specs.declared.recovered.Recovered.{Recovered}
-use Rattle.frs_recovery.specs.Answers.{IsInRange, place_of}
+use Rattle.frs_recovery.specs.Answers.{IsInRange, place_of_entry}
 use Rattle.frs_recovery.specs.Wrong.{IsWrongFirst}
 use Rattle.frs_text.specs.Text.{Text, line, dump, stat_text, stat_of, stat_found}
 use Rattle.frs_text.specs.declared.plan.PlainPlan.{PlainPlan}
@@ -44,7 +44,7 @@ abbrev pub later_text : Text
 later_text = line (codes "later" ∷ [])
 
 -- what is printed of a store whose files spell this log by these segments
-abbrev pub job_text : PlainPlan → List Segment → Log → Text
+abbrev pub job_text : PlainPlan → List WholeSegment → Log → Text
 job_text job.Recover segments log = dump (maps_of (survivors log))
 job_text job.Stat segments log = stat_text (stat_of segments log)
 job_text job.Compact segments log = later_text
@@ -55,11 +55,11 @@ is_decided n = (n == 0) || (n == 3) || (n == 4) || (n == 8) || (n == 9) || (n ==
 
 -- What is decided and said of a store with these files, before anything is printed: which status, and which text. `told`
 -- says that the disk tells its files; `before` and `now` are its counts of faults.
-pub record IsSaid (plan : PlainPlan) (told : Bool) (image : Image) (before now decided : ℕ) (text : Text) : Type 0 where
+pub record IsSaid (plan : PlainPlan) (told : Bool) (image : FileList) (before now decided : ℕ) (text : Text) : Type 0 where
   pub known : IsTrue (is_decided decided)
   pub later : decided ≡ 10 → (plan ≡ job.Compact) × (text ≡ later_text)
   pub not_yet : plan ≡ job.Compact → decided ≡ 10
-  pub done : decided ≡ 0 → IsTrue told → (segments : List Segment) × (log : Log) × SpellsBy image segments log × (text ≡ job_text plan segments log)
+  pub done : decided ≡ 0 → IsTrue told → (segments : List WholeSegment) × (log : Log) × SpellsBy image segments log × (text ≡ job_text plan segments log)
   pub wrong : (decided ≡ 4) ⊎ (decided ≡ 8) → (fault : RecoverFault) × (decided ≡ refusal_status fault) × (text ≡ refusal_text fault) × (IsTrue told → IsWrongFirst image fault)
   pub failed : decided ≡ 3 → (before ≤ now) × Rose before now × (text ≡ refusal_text Disk)
   pub memory : decided ≡ 9 → text ≡ refusal_text Memory
@@ -93,6 +93,6 @@ finding_text (finding.Refused fault) = refusal_text fault
 
 -- No two entries are at one place, and the numbers of a store are those of one that was read back.
 abbrev pub IsPrintable : Finding → Type 0
-IsPrintable (finding.Maps entries) = IsDistinct same_place (map place_of entries)
+IsPrintable (finding.Maps entries) = IsDistinct same_place (map place_of_entry entries)
 IsPrintable (finding.Numbers recovered) = IsInRange recovered
 IsPrintable other = Unit {0}

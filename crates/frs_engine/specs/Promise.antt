@@ -6,18 +6,18 @@ use Rattle.frs_types.specs.declared.record.Action.{Action}
 use Rattle.frs_types.specs.declared.record.Action.TheVariants as action
 use Rattle.frs_types.specs.declared.record.Record.{Record}
 use Rattle.frs_types.specs.Lawful.{Lawful}
-use Rattle.frs_types.specs.Maps.{After, changed_by}
+use Rattle.frs_types.specs.Maps.{After, table_after_all}
 use Rattle.frs_types.specs.Maps.Change.{Set}
 use Rattle.frs_history.specs.declared.command.Command.{Command}
 use Rattle.frs_history.specs.declared.command.Command.TheVariants as command
 use Rattle.frs_history.specs.declared.command.Line.{Line}
 use Rattle.frs_history.specs.declared.event.Ack.{Ack}
 use Rattle.frs_history.specs.declared.event.Event.{Event}
-use Rattle.frs_history.specs.Histories.{moments, commits_from, owed, Legal, is_active, run}
+use Rattle.frs_history.specs.Histories.{moments, commits_from, owed_events, Legal, is_active, run}
 use Rattle.frs_history.specs.Machine.{Scripts, State, Changes, start, client, next_line}
 use Rattle.frs_disk.specs.Disk.{Image}
 use Rattle.frs_segment.specs.Order.{IsInOrder}
-use Rattle.frs_segment.specs.Segments.{File, Segment, IsSegment, open_files, all_records, follow_from}
+use Rattle.frs_segment.specs.Segments.{File, WholeSegment, IsSegment, open_files, all_records, follow_from}
 
 -- ---- the script, its commits and what is owed
 
@@ -41,7 +41,7 @@ acks_from n (e ∷ es) = record { client = e.client; line = e.line; lsn = n } �
 
 -- the acknowledgements that the puts ask for; the opening mark has LSN 1, and each put draws the next LSN
 abbrev pub owed_acks : List Line → List Event → List Ack
-owed_acks script events = acks_from 2 (owed (moments (script ∷ []) (start [] 0 1) events))
+owed_acks script events = acks_from 2 (owed_events (moments (script ∷ []) (start [] 0 1) events))
 
 -- it is the one client's
 abbrev pub is_own : Event → Bool
@@ -104,7 +104,7 @@ are_of_run (r ∷ rs) = is_mark r && are_puts rs
 -- after the first j commits, of which there are so many. The files are in order: their numbers are those
 -- from 1 on, at most so many are half-made, above the segments, and each but the newest has a record.
 pub record ShowsPuts (most : ℕ) (files : List File) (commits : List Changes) (n j : ℕ) : Type 0 where
-  pub segments : List Segment
+  pub segments : List WholeSegment
   pub each : AllZip IsSegment (open_files files) segments
   pub follow : IsTrue (follow_from 1 segments)
   pub order : IsInOrder most (n + 1) files segments
@@ -113,11 +113,11 @@ pub record ShowsPuts (most : ℕ) (files : List File) (commits : List Changes) (
   pub kinds : IsTrue (are_of_run (all_records segments))
   pub count : length (puts (all_records segments)) ≡ j
   pub known : j ≤ length commits
-  pub maps : changed_by [] (puts (all_records segments)) ≡ After [] commits j
+  pub maps : table_after_all [] (puts (all_records segments)) ≡ After [] commits j
 
 -- some newest LSN and some number of commits, and one half-made file at most
-abbrev pub Shows : List Changes → Image → Type 0
-Shows commits image = (n : ℕ) × (j : ℕ) × ShowsPuts 1 (entries image) commits n j
+abbrev pub ShowsCommits : List Changes → Image → Type 0
+ShowsCommits commits image = (n : ℕ) × (j : ℕ) × ShowsPuts 1 (entries image) commits n j
 
 -- the same, with every acknowledged put
 abbrev pub ShowsAcked : List Changes → List Ack → Image → Type 0
@@ -130,7 +130,7 @@ ShowsAll commits image = ShowsPuts 0 (entries image) commits (length commits + 2
 
 -- What a crash leaves: `left` are the images of a crash at some moment since the start, `now` those of one at this moment.
 pub record Survives (commits : List Changes) (acks : List Ack) (left now : Image → Type 0) : Type 0 where
-  pub crash : (image : Image) → left image → Shows commits image
+  pub crash : (image : Image) → left image → ShowsCommits commits image
   pub durable : (image : Image) → now image → ShowsAcked commits acks image
 
 -- What holds besides where nothing stopped the run.

@@ -5,8 +5,8 @@ use Rattle.frs_types.specs.declared.record.Action.{Action}
 use Rattle.frs_types.specs.declared.record.Action.TheVariants as action
 use Rattle.frs_types.specs.declared.record.Record.{Record}
 use Rattle.frs_types.specs.Maps.{Place, Maps, Table}
-use Rattle.frs_types.specs.Records.{Placed, named_lowest}
-use Rattle.frs_types.specs.Lawful.{Held, Lawful, settled, state_after, lowest, named_at, plain}
+use Rattle.frs_types.specs.Records.{IsPlaced, named_lowest}
+use Rattle.frs_types.specs.Lawful.{StoredValue, Lawful, settled_state, state_after, lowest, named_at, plain_maps}
 use Rattle.frs_disk.specs.declared.disk.Fault.{Fault}
 use Rattle.frs_disk.specs.Disk.{Image}
 use Rattle.frs_history.specs.declared.event.Ack.{Ack}
@@ -26,23 +26,23 @@ use Rattle.frs_engine.specs.Promise.{commits_of_run, owed_acks, puts, is_own, ar
 -- ---- the log
 
 -- the record that an action draws outside transactions
-abbrev pub drawn : Table Held → ℕ → ℕ → Action → Record
-drawn entries next named what = record { tx = 0; lowest = lowest (settled entries next); named = named; action = what }
+abbrev pub record_drawn : Table StoredValue → ℕ → ℕ → Action → Record
+record_drawn entries next named what = record { tx = 0; lowest = lowest (settled_state entries next); named = named; action = what }
 
 -- the record that a put draws
-abbrev pub drawn_put : Table Held → ℕ → List ℕ → List ℕ → List ℕ → Record
-drawn_put entries next id key value = drawn entries next (named_at (settled entries next) 0 (id, key)) (action.Put id key value)
+abbrev pub put_drawn : Table StoredValue → ℕ → List ℕ → List ℕ → List ℕ → Record
+put_drawn entries next id key value = record_drawn entries next (named_at (settled_state entries next) 0 (id, key)) (action.Put id key value)
 
 -- The records are a lawful log from an empty store on, and these are its entries and its next LSN. The lowest LSN that its
 -- records name never falls.
-pub record IsLog (records : List Record) (entries : Table Held) (next : ℕ) : Type 0 where
+pub record IsLogOfRun (records : List Record) (entries : Table StoredValue) (next : ℕ) : Type 0 where
   pub lawful : Lawful [] 1 records
   pub kinds : IsTrue (are_of_run records)
-  pub state : state_after (settled [] 1) records ≡ settled entries next
+  pub state : state_after (settled_state [] 1) records ≡ settled_state entries next
   pub count : next ≡ length records + 1
-  pub placed : Placed (log_of records)
-  pub named : named_lowest records ≤ lowest (settled entries next)
-  pub lsns : IsTrue (list_all (λ (e : Place × Held). nat_lt 0 e.1.lsn && nat_lt e.1.lsn next) entries)
+  pub placed : IsPlaced (log_of records)
+  pub named : named_lowest records ≤ lowest (settled_state entries next)
+  pub lsns : IsTrue (list_all (λ (e : Place × StoredValue). nat_lt 0 e.1.lsn && nat_lt e.1.lsn next) entries)
 
 -- ---- the history
 
@@ -50,8 +50,8 @@ pub record IsLog (records : List Record) (entries : Table Held) (next : ℕ) : T
 abbrev pub state_at : Maps → ℕ → State
 state_at maps done = record { maps = maps; last = 0; clients = newcomer ∷ record { done = done; tx = Outside } ∷ []; holders = nobody ∷ nobody ∷ [] }
 
-abbrev pub answer : ℕ → Reply → Event
-answer line reply = record { client = 1; line = line; what = what.Answered reply }
+abbrev pub answer_event : ℕ → Reply → Event
+answer_event line reply = record { client = 1; line = line; what = what.Answered reply }
 
 abbrev pub commits_so_far : Run → List Changes
 commits_so_far r = commits_of_run r.script.now r.events.items
@@ -59,8 +59,8 @@ commits_so_far r = commits_of_run r.script.now r.events.items
 -- The log and the history say the same: the entries are the maps, each put is a commit, and is acknowledged. Each event is
 -- the client's.
 pub record IsAnswered (records : List Record) (r : Run) : Type 0 where
-  pub log : IsLog records (table r.entries.items) (length records + 1)
-  pub machine : run (r.script.now ∷ []) (start [] 0 1) r.events.items ≡ Some (state_at (plain (table r.entries.items)) r.done)
+  pub log : IsLogOfRun records (table r.entries.items) (length records + 1)
+  pub machine : run (r.script.now ∷ []) (start [] 0 1) r.events.items ≡ Some (state_at (plain_maps (table r.entries.items)) r.done)
   pub own : IsTrue (list_all is_own r.events.items)
   pub commits : commits_so_far r ≡ each_alone (puts records)
   pub acks : r.acks.items ≡ owed_acks r.script.now r.events.items
@@ -68,7 +68,7 @@ pub record IsAnswered (records : List Record) (r : Run) : Type 0 where
   pub counted : length r.acks.items ≡ length (puts records)
 
 -- The same, and the journal has the log, all of it durable.
-pub record IsReady {D : Type 0} (tells : D → Bool) (reads : D → Image) (may_leave : D → Image → Type 0) (j : Journal D) (r : Run) : Type 0 where
+pub record IsUnderWay {D : Type 0} (tells : D → Bool) (reads : D → Image) (may_leave : D → Image → Type 0) (j : Journal D) (r : Run) : Type 0 where
   pub records : List Record
   pub answered : IsAnswered records r
   pub written : IsWritten tells reads may_leave j records
@@ -78,7 +78,7 @@ abbrev pub HasOneMark : {D : Type 0} → Journal D → Run → Type 0
 HasOneMark j r = length j.drawer.drawn ≡ length r.acks.items + 1
 
 -- the numbers of a run that is far from their types' ends
-pub record HasRoom {D : Type 0} (j : Journal D) (r : Run) : Type 0 where
+pub record HasNumbersLeft {D : Type 0} (j : Journal D) (r : Run) : Type 0 where
   pub drawn : length j.drawer.drawn < 2 ^ 40
   pub done : r.done < 2 ^ 40
 

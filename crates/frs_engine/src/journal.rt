@@ -2,13 +2,13 @@
 ghost use Rattle.std.specs.Prelude.{◌≡◌, ◌+◌, ◌<◌, ◌^◌, ◌++◌, ℕ, List, [], ◌∷◌, length, IsTrue, IfOk, IfErr, OnOk};
 ghost use Rattle.std.specs.FinMap.{entries, empty};
 ghost use Rattle.frs_types.specs.declared.record.Record.{Record};
-ghost use Rattle.frs_types.specs.Records.{Placed};
+ghost use Rattle.frs_types.specs.Records.{IsPlaced};
 ghost use Rattle.frs_disk.specs.Disk.{Passes, Within, LeftNoFile};
 ghost use Rattle.frs_frame.specs.Spelling.{spelling};
 ghost use Rattle.frs_segment.specs.Stores.{IsFound};
 ghost use Rattle.frs_slots.specs.Views.{AreOfOneRing};
 ghost use Rattle.frs_writer.specs.Writing.{HoldsOnly};
-ghost use Rattle.frs_engine.specs.Journal.{IsWritten, IsNext, IsPublished, HoldsOneMore, log_of, IsOutside, outside, FaultHasCause, CallHasCause};
+ghost use Rattle.frs_engine.specs.Journal.{IsWritten, IsNext, IsPublished, HoldsOneMore, log_of, IsOutsideStop, outside_fault, FaultHasCause, CallHasCause};
 
 use frs_disk::{Disk, Fault};
 use frs_frame::Framed;
@@ -59,8 +59,8 @@ fn nothing_found(alloc: Global) -> Found
 
 // The fault of the disk or of memory for which the writer was refused.
 fn fault_of(fault: WriteFault) -> Fault
-    requires { IsOutside fault }
-    ensures { result ≡ outside fault }
+    requires { IsOutsideStop fault }
+    ensures { result ≡ outside_fault fault }
 {
     match fault {
         WriteFault::Disk => Fault::Failed,
@@ -146,7 +146,7 @@ impl<D: Disk> Journal<D> {
         requires room { length self.old.drawer.drawn < 2 ^ 41 }
         ensures written { (records : List Record) (r : Record) → IsPublished D.tells D.reads D.may_leave self.old records r
             → OnOk result (IsWritten D.tells D.reads D.may_leave self.new (records ++ r ∷ [])) }
-        ensures images { (records : List Record) (r : Record) → IsPublished D.tells D.reads D.may_leave self.old records r → Placed (log_of (records ++ r ∷ []))
+        ensures images { (records : List Record) (r : Record) → IsPublished D.tells D.reads D.may_leave self.old records r → IsPlaced (log_of (records ++ r ∷ []))
             → IsTrue (D.tells self.old.writer.disk) → LeftNoFile D.may_leave self.old.writer.opened
             → Within D.moment D.left_since self.old.writer.disk self.new.writer.disk (HoldsOneMore records r) }
         ensures opened { self.new.writer.opened ≡ self.old.writer.opened }
@@ -173,7 +173,7 @@ impl<D: Disk> Journal<D> {
             → OnOk result (IsWritten D.tells D.reads D.may_leave self.new (records ++ r ∷ [])) }
 
         // A crash in the call leaves the records before it, or this one too.
-        ensures images { (records : List Record) (r : Record) → IsWritten D.tells D.reads D.may_leave self.old records → framed ≡ spelling r → Placed (log_of (records ++ r ∷ []))
+        ensures images { (records : List Record) (r : Record) → IsWritten D.tells D.reads D.may_leave self.old records → framed ≡ spelling r → IsPlaced (log_of (records ++ r ∷ []))
             → IsTrue (D.tells self.old.writer.disk) → LeftNoFile D.may_leave self.old.writer.opened
             → Within D.moment D.left_since self.old.writer.disk self.new.writer.disk (HoldsOneMore records r) }
         ensures opened { self.new.writer.opened ≡ self.old.writer.opened }

@@ -5,7 +5,7 @@ ghost use Rattle.std.specs.String.{string_bytes};
 ghost use Rattle.frs_types.specs.Records.{Log};
 ghost use Rattle.frs_disk.specs.Disk.{HasCause, Passes, Rose};
 ghost use Rattle.frs_disk.specs.Outside.{AddsPartOf};
-ghost use Rattle.frs_segment.specs.Segments.{Segment, SpellsBy};
+ghost use Rattle.frs_segment.specs.Segments.{WholeSegment, SpellsBy};
 ghost use Rattle.frs_recovery.specs.declared.fault.RecoverFault.{RecoverFault as Refusal};
 ghost use Rattle.frs_recovery.specs.Wrong.{IsWrongFirst};
 ghost use Rattle.frs_text.specs.Text.{Text, line};
@@ -103,7 +103,7 @@ fn look<D: Disk>(alloc: Global, plan: &PlainPlan, disk: &mut D) -> Finding
     ensures said { IsSaid plan.now (D.tells disk.old) (entries (D.reads disk.old)) (D.faults disk.old) (D.faults disk.new) (finding_status result) (finding_text result) }
     ensures refused { IsTrue (D.tells disk.old) → plan.now ≢ Compact → (fault : Refusal) → IsWrongFirst (entries (D.reads disk.old)) fault
         → (finding_status result ≡ refusal_status fault) ⊎ (finding_status result ≡ 3) ⊎ (finding_status result ≡ 9) }
-    ensures only { IsTrue (D.tells disk.old) → plan.now ≢ Compact → (segments : List Segment) (log : Log) → SpellsBy (entries (D.reads disk.old)) segments log
+    ensures only { IsTrue (D.tells disk.old) → plan.now ≢ Compact → (segments : List WholeSegment) (log : Log) → SpellsBy (entries (D.reads disk.old)) segments log
         → (finding_status result ≡ 0) ⊎ (finding_status result ≡ 3) ⊎ (finding_status result ≡ 9) }
     ensures printable { IsPrintable result }
     ensures unread { plan.now ≡ Compact → disk.new ≡ disk.old }
@@ -224,7 +224,7 @@ pub fn frs_plain<D: Disk, S: Sink>(
     ensures later { plan.now ≡ Compact → (result.status ≡ 10) ⊎ (result.status ≡ 9) }
     ensures refused { IsTrue (D.tells disk) → plan.now ≢ Compact → (fault : Refusal) → IsWrongFirst (entries (D.reads disk)) fault
         → (result.status ≡ refusal_status fault) ⊎ (result.status ≡ 3) ⊎ (result.status ≡ 9) }
-    ensures complete { IsTrue (D.tells disk) → plan.now ≢ Compact → (segments : List Segment) (log : Log) → SpellsBy (entries (D.reads disk)) segments log
+    ensures complete { IsTrue (D.tells disk) → plan.now ≢ Compact → (segments : List WholeSegment) (log : Log) → SpellsBy (entries (D.reads disk)) segments log
         → IsSteady (D.faults disk) (D.faults result.disk) → IsSteady (S.faults sink.old) (S.faults sink.new)
         → (result.status ≡ 0) ⊎ (result.status ≡ 9) }
 

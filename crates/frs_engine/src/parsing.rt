@@ -3,7 +3,7 @@ ghost use Rattle.std.specs.Prelude.{◌≡◌, ◌⊎◌, ◌<◌, ◌^◌, ℕ,
 ghost use Rattle.frs_disk.specs.Disk.{Rose};
 ghost use Rattle.frs_text.specs.declared.script_fault.ScriptFault.{ScriptFault as Refusal};
 ghost use Rattle.frs_engine.specs.Causes.{one_file, bytes_of_plan, ending_of_plan, IsUnread};
-ghost use Rattle.frs_engine.specs.Endings.{parsed, ending_by};
+ghost use Rattle.frs_engine.specs.Endings.{script_in, ending_by};
 ghost use Rattle.frs_engine.specs.Promise.{is_put_or_get, has_puts_and_gets};
 
 use crate::report::Ending;
@@ -39,8 +39,8 @@ fn one_file(plan: &RunPlan) -> Result<&Name, Ending>
 // The script that the bytes spell, or how a run of them ends.
 fn parse(alloc: Global, bytes: &[u8]) -> Result<Script, Ending>
     requires { length bytes.now < 2 ^ 32 }
-    ensures found { IfOk result (λ script. parsed bytes.now ≡ Ok script) }
-    ensures refused { IfErr result (λ ending. (ending ≡ Ending.Memory) ⊎ ((fault : Refusal) × (parsed bytes.now ≡ Err fault) × (ending ≡ ending_by fault))) }
+    ensures found { IfOk result (λ script. script_in bytes.now ≡ Ok script) }
+    ensures refused { IfErr result (λ ending. (ending ≡ Ending.Memory) ⊎ ((fault : Refusal) × (script_in bytes.now ≡ Err fault) × (ending ≡ ending_by fault))) }
 {
     match parse_script(alloc, bytes, COMMANDS, SNAPSHOTS) {
         Ok(script) => Ok(script),
@@ -70,7 +70,7 @@ pub(crate) fn read_script<F: Files>(
     plan: &RunPlan,
     files: &mut F,
 ) -> Result<Script, Ending>
-    ensures found { IfOk result (λ script. IsTrue (F.tells files.old) → (file : List ℕ) × (bytes_of_plan plan.now (F.file files.old) ≡ Some file) × (parsed file ≡ Ok script)) }
+    ensures found { IfOk result (λ script. IsTrue (F.tells files.old) → (file : List ℕ) × (bytes_of_plan plan.now (F.file files.old) ≡ Some file) × (script_in file ≡ Ok script)) }
     ensures simple { IfOk result (λ script. IsTrue (has_puts_and_gets script)) }
     ensures short { IfOk result (λ script. length script < 2 ^ 32) }
     ensures one { IfOk result (λ script. (name : List ℕ) × (one_file plan.now ≡ Some name)) }

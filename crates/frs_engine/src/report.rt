@@ -3,7 +3,7 @@ ghost use Rattle.std.specs.Prelude.{◌≡◌, ◌≢◌, ◌++◌, IsTrue, OnOk
 ghost use Rattle.std.specs.String.{string_bytes};
 ghost use Rattle.frs_disk.specs.Disk.{HasCause, Rose};
 ghost use Rattle.frs_disk.specs.Outside.{AddsPartOf};
-ghost use Rattle.frs_engine.specs.Endings.{status_of, line_of, has_transcript, text_of};
+ghost use Rattle.frs_engine.specs.Endings.{status_of, last_line_of, has_transcript, text_of};
 ghost use Rattle.frs_engine.specs.Runs.{Prints, PrintsAll, Answers};
 
 use frs_disk::{Fault, Sink};
@@ -65,7 +65,7 @@ impl Ending {
 
     // Its last line, added to the text. Where memory runs out a part of it may have been added.
     fn push_line(self, text: &mut String) -> Result<(), NoMemory>
-        ensures { OnOk result (string_bytes text.new ≡ string_bytes text.old ++ line_of self) }
+        ensures { OnOk result (string_bytes text.new ≡ string_bytes text.old ++ last_line_of self) }
     {
         match self {
             Ending::Closed => text.push_str("closed\n")?,
@@ -104,8 +104,8 @@ pub(crate) struct Outcome {
 
 // The last line of an ending.
 fn print_line<S: Sink>(alloc: Global, ending: Ending, sink: &mut S) -> Result<(), Fault>
-    ensures all { OnOk result (IsTrue (S.tells sink.old) → PrintsAll (line_of ending) (S.written sink.old) (S.written sink.new)) }
-    ensures part { IsTrue (S.tells sink.old) → AddsPartOf (line_of ending) (S.written sink.old) (S.written sink.new) }
+    ensures all { OnOk result (IsTrue (S.tells sink.old) → PrintsAll (last_line_of ending) (S.written sink.old) (S.written sink.new)) }
+    ensures part { IsTrue (S.tells sink.old) → AddsPartOf (last_line_of ending) (S.written sink.old) (S.written sink.new) }
     ensures told { S.tells sink.new ≡ S.tells sink.old }
     ensures cause { HasCause (S.faults sink.old) (S.faults sink.new) result }
 {

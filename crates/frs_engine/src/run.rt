@@ -9,7 +9,7 @@ ghost use Rattle.frs_text.specs.declared.script_fault.ScriptFault.{ScriptFault a
 ghost use Rattle.frs_text.specs.declared.script_fault.ScriptFault.TheVariants as refusal;
 ghost use Rattle.frs_engine.specs.declared.report.Ending.{Ending as Decided};
 ghost use Rattle.frs_engine.specs.Causes.{one_file, bytes_of_plan, ending_of_plan, HasOthers, IsForLater, IsCause, IsEndOfRun};
-ghost use Rattle.frs_engine.specs.Endings.{parsed, ending_by, ending_of_stop, status_of, text_of};
+ghost use Rattle.frs_engine.specs.Endings.{script_in, ending_by, ending_of_stop, status_of, text_of};
 ghost use Rattle.frs_engine.specs.Promise.{has_puts_and_gets, commits_of_run, Tells, Survives, Completes, ShowsAll};
 ghost use Rattle.frs_engine.specs.Runs.{IsRun, IsReported, IsOnlyLookedAt, HasWork, IsSteady, is_status};
 
@@ -134,7 +134,7 @@ fn attempt<D: Disk, F: Files>(alloc: Global, plan: &RunPlan, disk: D, files: &mu
         result.outcome.script result.outcome.events.items result.outcome.ending }
     ensures several { one_file plan.now ≡ None → result.outcome.ending ≡ ending_of_plan plan.now }
     ensures listed { IsTrue (D.tells disk) → keys (D.reads disk) ≢ [] → result.outcome.ending ≢ Ending.Closed }
-    ensures others { IsTrue (F.tells files.old) → (file : List ℕ) (script : List Line) → bytes_of_plan plan.now (F.file files.old) ≡ Some file → parsed file ≡ Ok script
+    ensures others { IsTrue (F.tells files.old) → (file : List ℕ) (script : List Line) → bytes_of_plan plan.now (F.file files.old) ≡ Some file → script_in file ≡ Ok script
         → has_puts_and_gets script ≡ false → (result.outcome.ending ≡ Ending.Later) ⊎ (result.outcome.ending ≡ Ending.Unread) ⊎ (result.outcome.ending ≡ Ending.Memory) }
     ensures unread { (status_of result.outcome.ending ≡ 2) ⊎ (status_of result.outcome.ending ≡ 5) ⊎ (status_of result.outcome.ending ≡ 8) → result.disk ≡ disk }
     ensures looked { (result.outcome.ending ≡ Ending.Later) ⊎ (IsTrue (D.tells disk) × (keys (D.reads disk) ≢ []))
@@ -200,17 +200,17 @@ pub fn frs_run<
     ensures files_steady { result.status ≢ 5 → result.status ≢ 9 → F.faults files.new ≡ F.faults files.old }
     ensures untroubled { result.status ≡ 0 → (D.faults result.disk ≡ D.faults disk) × (F.faults files.new ≡ F.faults files.old) × (S.faults sink.new ≡ S.faults sink.old) }
     ensures bad { result.status ≡ 2 → IsTrue (F.tells files.old) → (file : List ℕ) × (line : ℕ) × (bytes_of_plan plan.now (F.file files.old) ≡ Some file)
-        × ((parsed file ≡ Err (refusal.BadLine line)) ⊎ (parsed file ≡ Err (refusal.TooLong line))) }
+        × ((script_in file ≡ Err (refusal.BadLine line)) ⊎ (script_in file ≡ Err (refusal.TooLong line))) }
     ensures disk_failed { result.status ≡ 3 → Rose (D.faults disk) (D.faults result.disk) }
     ensures files_failed { result.status ≡ 5 → Rose (F.faults files.old) (F.faults files.new) }
     ensures sink_failed { result.status ≡ 6 → Rose (S.faults sink.old) (S.faults sink.new) }
     ensures limited { result.status ≡ 8 → ((n : ℕ) × (one_file plan.now ≡ None) × (ending_of_plan plan.now ≡ Ending.Crowded n))
-        ⊎ (IsTrue (F.tells files.old) → (file : List ℕ) × (line : ℕ) × (bytes_of_plan plan.now (F.file files.old) ≡ Some file) × (parsed file ≡ Err (refusal.TooMany line))) }
+        ⊎ (IsTrue (F.tells files.old) → (file : List ℕ) × (line : ℕ) × (bytes_of_plan plan.now (F.file files.old) ≡ Some file) × (script_in file ≡ Err (refusal.TooMany line))) }
     ensures later { result.status ≡ 10 → IsTrue (F.tells files.old) → IsTrue (D.tells disk) → IsForLater plan.now (F.file files.old) (D.reads disk) }
 
     // What can't be run is answered so, unless a count rose before it was known, or memory ran out.
     ensures several { one_file plan.now ≡ None → (result.status ≡ status_of (ending_of_plan plan.now)) ⊎ (result.status ≡ 9) }
-    ensures refused { IsTrue (F.tells files.old) → (file : List ℕ) (fault : Refusal) → bytes_of_plan plan.now (F.file files.old) ≡ Some file → parsed file ≡ Err fault
+    ensures refused { IsTrue (F.tells files.old) → (file : List ℕ) (fault : Refusal) → bytes_of_plan plan.now (F.file files.old) ≡ Some file → script_in file ≡ Err fault
         → (result.status ≡ status_of (ending_by fault)) ⊎ (result.status ≡ 9) ⊎ (result.status ≡ 5) }
     ensures others { IsTrue (F.tells files.old) → HasOthers (bytes_of_plan plan.now (F.file files.old)) → (result.status ≡ 10) ⊎ (result.status ≡ 9) ⊎ (result.status ≡ 5) }
     ensures for_later { IsTrue (F.tells files.old) → IsTrue (D.tells disk) → IsForLater plan.now (F.file files.old) (D.reads disk)
@@ -226,7 +226,7 @@ pub fn frs_run<
 
     // What can be run is run to its end, unless a count rose or memory ran out.
     ensures complete { (script : List Line) (file : List ℕ) → IsTrue (F.tells files.old) → IsTrue (D.tells disk)
-        → bytes_of_plan plan.now (F.file files.old) ≡ Some file → parsed file ≡ Ok script → IsTrue (has_puts_and_gets script) → keys (D.reads disk) ≡ []
+        → bytes_of_plan plan.now (F.file files.old) ≡ Some file → script_in file ≡ Ok script → IsTrue (has_puts_and_gets script) → keys (D.reads disk) ≡ []
         → IsSteady (D.faults disk) (D.faults result.disk) → IsSteady (F.faults files.old) (F.faults files.new) → IsSteady (S.faults sink.old) (S.faults sink.new)
         → (result.status ≡ 0) ⊎ (result.status ≡ 9) }
 

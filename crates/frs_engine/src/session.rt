@@ -5,7 +5,7 @@ ghost use Rattle.std.specs.FinMap.Entries.{put, find};
 ghost use Rattle.frs_types.specs.declared.record.Action.TheVariants as action;
 ghost use Rattle.frs_types.specs.declared.record.Record.{Record};
 ghost use Rattle.frs_types.specs.Maps.{place_cmp};
-ghost use Rattle.frs_types.specs.Lawful.{Held};
+ghost use Rattle.frs_types.specs.Lawful.{StoredValue};
 ghost use Rattle.frs_types.specs.Records.{has_words};
 ghost use Rattle.frs_types.specs.Survivors.{entry_by};
 ghost use Rattle.frs_frame.specs.Spelling.{spelling};
@@ -15,8 +15,8 @@ ghost use Rattle.frs_history.specs.declared.event.Reply.TheVariants as reply;
 ghost use Rattle.frs_history.specs.Machine.{value_or_none};
 ghost use Rattle.frs_engine.specs.Entries.{table};
 ghost use Rattle.frs_engine.specs.Journal.{CallHasCause};
-ghost use Rattle.frs_engine.specs.Promise.{has_puts_and_gets, commits_of_run, Tells, Survives, Shows, ShowsAcked, ShowsAll, Completes};
-ghost use Rattle.frs_engine.specs.Session.{drawn, drawn_put, answer, IsAnswered, IsReady, HasOneMark, HasRoom, IsToldAlike, IsFresh, commits_so_far, Extends, StopHasCause};
+ghost use Rattle.frs_engine.specs.Promise.{has_puts_and_gets, commits_of_run, Tells, Survives, ShowsCommits, ShowsAcked, ShowsAll, Completes};
+ghost use Rattle.frs_engine.specs.Session.{record_drawn, put_drawn, answer_event, IsAnswered, IsUnderWay, HasOneMark, HasNumbersLeft, IsToldAlike, IsFresh, commits_so_far, Extends, StopHasCause};
 
 use crate::entries::{find_entry, lowest_of, set_entry};
 use crate::journal::{CLIENT, Journal, NotOpened};
@@ -64,7 +64,7 @@ impl<'a> Run<'a> {
         named: u64,
     ) -> Result<Framed, NoMemory>
         requires { IsTrue (has_words what.now) }
-        ensures { IfOk result (λ framed. framed ≡ spelling (drawn (table self.now.entries.items) lsn named what.now)) }
+        ensures { IfOk result (λ framed. framed ≡ spelling (record_drawn (table self.now.entries.items) lsn named what.now)) }
     {
         let mut framed = encode_payload(alloc, what)?;
         framed.patch(0, lowest_of(&self.entries, lsn), named);
@@ -81,11 +81,11 @@ impl<'a> Run<'a> {
         key: &Key,
         value: &Value,
     ) -> Result<Framed, NoMemory>
-        ensures record_is { IfOk result (λ framed. framed ≡ spelling (drawn_put (table self.old.entries.items) lsn id.now key.now value.now)) }
+        ensures record_is { IfOk result (λ framed. framed ≡ spelling (put_drawn (table self.old.entries.items) lsn id.now key.now value.now)) }
         ensures words { IsTrue (has_words (action.Put id.now key.now value.now)) }
         ensures entries { OnOk result (table self.new.entries.items
             ≡ put place_cmp (id.now, key.now) (record { value = value.now; lsn = lsn }) (table self.old.entries.items)) }
-        ensures events { OnOk result (self.new.events.items ≡ self.old.events.items ++ answer line reply.Done ∷ []) }
+        ensures events { OnOk result (self.new.events.items ≡ self.old.events.items ++ answer_event line reply.Done ∷ []) }
         ensures refused { OnErr result (self.new.events.items ≡ self.old.events.items) }
         ensures acks { self.new.acks.items ≡ self.old.acks.items }
         ensures room { OnOk result (vec_len self.new.acks < vec_capacity self.new.acks) }
@@ -118,7 +118,7 @@ impl<'a> Run<'a> {
 
     // What a get is answered.
     fn reply_of_get(&self, alloc: Global, id: &MapId, key: &Key) -> Result<Reply, NoMemory>
-        ensures { IfOk result (λ r. r ≡ value_or_none (option_map (λ (h : Held). h.value) (find place_cmp (id.now, key.now) (table self.now.entries.items)))) }
+        ensures { IfOk result (λ r. r ≡ value_or_none (option_map (λ (h : StoredValue). h.value) (find place_cmp (id.now, key.now) (table self.now.entries.items)))) }
     {
         match find_entry(&self.entries, id, key) {
             Some(entry) => Ok(Reply::Found {
@@ -138,11 +138,11 @@ impl<'a> Run<'a> {
         key: &Key,
         value: &Value,
     ) -> Result<(), Fault>
-        requires ready { IsReady D.tells D.reads D.may_leave journal.old self.old }
+        requires ready { IsUnderWay D.tells D.reads D.may_leave journal.old self.old }
         requires marks { HasOneMark journal.old self.old }
-        requires room { HasRoom journal.old self.old }
+        requires room { HasNumbersLeft journal.old self.old }
         requires next { slice_get self.old.script.now self.old.done ≡ Some (record { number = line; command = command.Put id.now key.now value.now }) }
-        ensures ready { OnOk result (IsReady D.tells D.reads D.may_leave journal.new self.new) }
+        ensures ready { OnOk result (IsUnderWay D.tells D.reads D.may_leave journal.new self.new) }
         ensures marks { OnOk result (HasOneMark journal.new self.new) }
         ensures drawn { OnOk result (length journal.new.drawer.drawn ≤ length journal.old.drawer.drawn + 1) }
         ensures done { OnOk result (self.new.done ≡ self.old.done + 1) }
@@ -174,10 +174,10 @@ impl<'a> Run<'a> {
 
     // Writes a mark.
     fn mark<D: Disk>(&self, alloc: Global, journal: &mut Journal<D>) -> Result<(), Fault>
-        requires ready { IsReady D.tells D.reads D.may_leave journal.old self.now }
+        requires ready { IsUnderWay D.tells D.reads D.may_leave journal.old self.now }
         requires marks { (journal.old.drawer.drawn ≡ []) ⊎ HasOneMark journal.old self.now }
-        requires room { HasRoom journal.old self.now }
-        ensures ready { OnOk result (IsReady D.tells D.reads D.may_leave journal.new self.now) }
+        requires room { HasNumbersLeft journal.old self.now }
+        ensures ready { OnOk result (IsUnderWay D.tells D.reads D.may_leave journal.new self.now) }
         ensures drawn { OnOk result (length journal.new.drawer.drawn ≡ length journal.old.drawer.drawn + 1) }
         ensures images { IsTrue (D.tells journal.old.writer.disk) → LeftNoFile D.may_leave journal.old.writer.opened
             → Within D.moment D.left_since journal.old.writer.disk journal.new.writer.disk (ShowsAcked (commits_so_far self.now) self.now.acks.items) }
@@ -215,12 +215,12 @@ impl<'a> Run<'a> {
 
     // Answers the next line.
     fn answer_next<D: Disk>(&mut self, alloc: Global, journal: &mut Journal<D>) -> Result<(), Fault>
-        requires ready { IsReady D.tells D.reads D.may_leave journal.old self.old }
+        requires ready { IsUnderWay D.tells D.reads D.may_leave journal.old self.old }
         requires marks { HasOneMark journal.old self.old }
-        requires room { HasRoom journal.old self.old }
+        requires room { HasNumbersLeft journal.old self.old }
         requires next { self.old.done < length self.old.script.now }
         requires commands { IsTrue (has_puts_and_gets self.old.script.now) }
-        ensures ready { OnOk result (IsReady D.tells D.reads D.may_leave journal.new self.new) }
+        ensures ready { OnOk result (IsUnderWay D.tells D.reads D.may_leave journal.new self.new) }
         ensures marks { OnOk result (HasOneMark journal.new self.new) }
         ensures drawn { OnOk result (length journal.new.drawer.drawn ≤ length journal.old.drawer.drawn + 1) }
         ensures done { OnOk result (self.new.done ≡ self.old.done + 1) }
@@ -251,20 +251,20 @@ impl<'a> Run<'a> {
 
     // Answers the lines of the script, of which none was answered yet.
     fn answer_all<D: Disk>(&mut self, alloc: Global, journal: &mut Journal<D>) -> Result<(), Fault>
-        requires ready { IsReady D.tells D.reads D.may_leave journal.old self.old }
+        requires ready { IsUnderWay D.tells D.reads D.may_leave journal.old self.old }
         requires start { self.old.done ≡ 0 }
         requires marks { (length journal.old.drawer.drawn ≡ 1) × (self.old.acks.items ≡ []) }
         requires short { length self.old.script.now < 2 ^ 32 }
         requires commands { IsTrue (has_puts_and_gets self.old.script.now) }
-        ensures ready { OnOk result (IsReady D.tells D.reads D.may_leave journal.new self.new) }
+        ensures ready { OnOk result (IsUnderWay D.tells D.reads D.may_leave journal.new self.new) }
         ensures marks { OnOk result (HasOneMark journal.new self.new) }
-        ensures room { OnOk result (HasRoom journal.new self.new) }
+        ensures room { OnOk result (HasNumbersLeft journal.new self.new) }
         ensures done { OnOk result (self.new.done ≡ length self.new.script.now) }
         ensures script { self.new.script ≡ self.old.script }
         ensures tells { Tells self.new.script.now self.new.events.items self.new.acks.items }
         ensures extends { Extends (commits_so_far self.old) (commits_so_far self.new) }
         ensures images { IsTrue (D.tells journal.old.writer.disk) → LeftNoFile D.may_leave journal.old.writer.opened
-            → Within D.moment D.left_since journal.old.writer.disk journal.new.writer.disk (Shows (commits_so_far self.new)) }
+            → Within D.moment D.left_since journal.old.writer.disk journal.new.writer.disk (ShowsCommits (commits_so_far self.new)) }
         ensures acked { IsTrue (D.tells journal.old.writer.disk) → LeftNoFile D.may_leave journal.old.writer.opened
             → (c : Image) → D.may_leave journal.new.writer.disk c → ShowsAcked (commits_so_far self.new) self.new.acks.items c }
         ensures opened { journal.new.writer.opened ≡ journal.old.writer.opened }
@@ -281,14 +281,14 @@ impl<'a> Run<'a> {
     // Writes the opening mark, answers the script, and writes the closing mark.
     fn play<D: Disk>(&mut self, alloc: Global, journal: &mut Journal<D>) -> Result<(), Fault>
         requires fresh { IsFresh self.old }
-        requires ready { IsReady D.tells D.reads D.may_leave journal.old self.old }
+        requires ready { IsUnderWay D.tells D.reads D.may_leave journal.old self.old }
         requires none { journal.old.drawer.drawn ≡ [] }
         requires short { length self.old.script.now < 2 ^ 32 }
         requires commands { IsTrue (has_puts_and_gets self.old.script.now) }
         ensures script { self.new.script ≡ self.old.script }
         ensures tells { Tells self.new.script.now self.new.events.items self.new.acks.items }
         ensures images { IsTrue (D.tells journal.old.writer.disk) → LeftNoFile D.may_leave journal.old.writer.opened
-            → Within D.moment D.left_since journal.old.writer.disk journal.new.writer.disk (Shows (commits_so_far self.new)) }
+            → Within D.moment D.left_since journal.old.writer.disk journal.new.writer.disk (ShowsCommits (commits_so_far self.new)) }
         ensures acked { IsTrue (D.tells journal.old.writer.disk) → LeftNoFile D.may_leave journal.old.writer.opened
             → (c : Image) → D.may_leave journal.new.writer.disk c → ShowsAcked (commits_so_far self.new) self.new.acks.items c }
         ensures complete { OnOk result (Completes self.new.script.now self.new.events.items self.new.acks.items) }

@@ -8,7 +8,7 @@ use Rattle.frs_types.specs.declared.record.Action.{Action}
 use Rattle.frs_types.specs.declared.record.Action.TheVariants.{Put, Remove, Delete, Begin, Commit, Compaction, Mark, Abandon}
 use Rattle.frs_types.specs.declared.record.Record.{Record}
 use Rattle.frs_types.specs.Records.{Numbered}
-use Rattle.frs_types.specs.Survivors.{ends_by, open_begins, least}
+use Rattle.frs_types.specs.Survivors.{is_ended_by, open_begins, least}
 use Rattle.frs_filters.specs.Filters.{has}
 use Rattle.frs_filters.specs.Begins.{Begins, is_ended, or_lower, with_noted, HasNoted}
 use Rattle.frs_filters.proofs.Notes.{has-number, or_swap}
@@ -31,8 +31,8 @@ begin b later lsn tx lowest named false h seen = record {
   lowest = λ n. ap (λ v. least n (if not v then lsn ∷ open_begins later else open_begins later)) (sym (seen.ended lsn) ∙ h) ∙ seen.lowest (min n lsn) ∙ min_two n lsn b.lowest;
 }
 
-ends : (b : Begins) (later : List Numbered) (tx t : ℕ) → is_ended b t ≡ list_any (λ (l : Numbered). ends_by t l.what.tx l.what.action) later
-    → (b.marked || has nat_cmp (insert_key nat_cmp b.ended tx) t) ≡ ((tx == t) || list_any (λ (l : Numbered). ends_by t l.what.tx l.what.action) later)
+ends : (b : Begins) (later : List Numbered) (tx t : ℕ) → is_ended b t ≡ list_any (λ (l : Numbered). is_ended_by t l.what.tx l.what.action) later
+    → (b.marked || has nat_cmp (insert_key nat_cmp b.ended tx) t) ≡ ((tx == t) || list_any (λ (l : Numbered). is_ended_by t l.what.tx l.what.action) later)
 ends b later tx t h = ap (λ v. b.marked || v) (has-number b.ended tx t _ refl) ∙ or_swap b.marked (tx == t) (has nat_cmp b.ended t) ∙ ap (λ v. (tx == t) || v) h
 
 noted : (b : Begins) (later : List Numbered) (lsn tx lowest named : ℕ) (a : Action) → HasNoted b later → HasNoted (with_noted b lsn tx a) (numbered_at lsn tx lowest named a ∷ later)

@@ -8,8 +8,8 @@ use Rattle.frs_types.specs.declared.record.Action.{Action}
 use Rattle.frs_types.specs.declared.record.Action.TheVariants.{Put, Remove, Delete, Begin, Commit, Compaction, Mark, Abandon}
 use Rattle.frs_types.specs.declared.record.Record.{Record}
 use Rattle.frs_types.specs.declared.record.Entry.{Entry}
-use Rattle.frs_types.specs.Records.{Numbered, allowed, kind_allows, has_words}
-use Rattle.frs_types.specs.Survivors.{is_commit, deletes, entry_by, with_entry, committed, committed_of, survivors_of}
+use Rattle.frs_types.specs.Records.{Numbered, is_allowed, kind_allows, has_words}
+use Rattle.frs_types.specs.Survivors.{is_commit, is_delete_of, entry_by, with_entry, committed, committed_records, survivors_of}
 use Rattle.frs_filters.specs.declared.chain.Chain.{Chain}
 use Rattle.frs_filters.specs.Filters.{has, has_map, given_if, is_committed, with_commit, is_unnamed, with_named, is_undeleted, with_deleted, is_placed, with_older, with_replayed}
 use Rattle.frs_filters.specs.Chain.{past_deletes, past_skips, past_transactions, passed, HasSeen}
@@ -43,7 +43,7 @@ past_transactions-is c false lsn r = refl
 
 record Holds (noted : List ℕ) (gone : List (List ℕ)) (entries : List Entry) (ls : List Numbered) : Type 0 where
   pub named : (n : ℕ) → 0 < n → has nat_cmp noted n ≡ list_any (λ (l : Numbered). l.what.named == n) ls
-  pub deleted : (id : List ℕ) → has_map gone id ≡ list_any (λ (l : Numbered). deletes id l.what.action) ls
+  pub deleted : (id : List ℕ) → has_map gone id ≡ list_any (λ (l : Numbered). is_delete_of id l.what.action) ls
   pub kept : entries ≡ survivors_of ls
 
 abbrev HoldsOf : Chain → List Numbered → Type 0
@@ -57,11 +57,11 @@ in_front b lsn r ls = if b then at_lsn lsn r ∷ ls else ls
 
 -- ---- a record that changes nothing
 
-silent : (c : Chain) (ls : List Numbered) (b : Bool) (lsn : ℕ) (r : Record) → r.named ≡ 0 → ((id : List ℕ) → deletes id r.action ≡ false) → entry_by lsn r.action ≡ None → HoldsOf c ls → HoldsOf c (in_front b lsn r ls)
+silent : (c : Chain) (ls : List Numbered) (b : Bool) (lsn : ℕ) (r : Record) → r.named ≡ 0 → ((id : List ℕ) → is_delete_of id r.action ≡ false) → entry_by lsn r.action ≡ None → HoldsOf c ls → HoldsOf c (in_front b lsn r ls)
 silent c ls false lsn r z d e h = h
 silent c ls true lsn r z d e h = record {
   named = λ n p. h.named n p ∙ ap (λ v. v || list_any (λ (l : Numbered). l.what.named == n) ls) (sym (ne_eqb r.named n (omega arith)));
-  deleted = λ id. h.deleted id ∙ ap (λ v. v || list_any (λ (l : Numbered). deletes id l.what.action) ls) (sym (d id));
+  deleted = λ id. h.deleted id ∙ ap (λ v. v || list_any (λ (l : Numbered). is_delete_of id l.what.action) ls) (sym (d id));
   kept = h.kept ∙ ap (λ o. with_entry o ls (survivors_of ls)) (sym e);
 }
 
@@ -77,12 +77,12 @@ named_step named ls true lsn r h n p = has-number named r.named n _ (h n p)
 named_step named ls false lsn r h n p = h n p
 
 -- no delete
-gone_step : (gone : List (List ℕ)) (ls : List Numbered) (b s : Bool) (lsn : ℕ) (r : Record) → ((id : List ℕ) → deletes id r.action ≡ false) → with_deleted gone r.action ≡ gone → ((id : List ℕ) → has_map gone id ≡ list_any (λ (l : Numbered). deletes id l.what.action) ls)
-    → (id : List ℕ) → has_map (if b && s then with_deleted gone r.action else gone) id ≡ list_any (λ (l : Numbered). deletes id l.what.action) (in_front b lsn r ls)
+gone_step : (gone : List (List ℕ)) (ls : List Numbered) (b s : Bool) (lsn : ℕ) (r : Record) → ((id : List ℕ) → is_delete_of id r.action ≡ false) → with_deleted gone r.action ≡ gone → ((id : List ℕ) → has_map gone id ≡ list_any (λ (l : Numbered). is_delete_of id l.what.action) ls)
+    → (id : List ℕ) → has_map (if b && s then with_deleted gone r.action else gone) id ≡ list_any (λ (l : Numbered). is_delete_of id l.what.action) (in_front b lsn r ls)
 gone_step gone ls b s lsn r d w h id =
     ap (λ g. has_map (if b && s then g else gone) id) w ∙ ap (λ g. has_map g id) (same_either (b && s) gone) ∙ h id
-    ∙ elim b as (λ v. list_any (λ (l : Numbered). deletes id l.what.action) ls ≡ list_any (λ (l : Numbered). deletes id l.what.action) (in_front v lsn r ls)) [
-      | true ↦ ap (λ v. v || list_any (λ (l : Numbered). deletes id l.what.action) ls) (sym (d id))
+    ∙ elim b as (λ v. list_any (λ (l : Numbered). is_delete_of id l.what.action) ls ≡ list_any (λ (l : Numbered). is_delete_of id l.what.action) (in_front v lsn r ls)) [
+      | true ↦ ap (λ v. v || list_any (λ (l : Numbered). is_delete_of id l.what.action) ls) (sym (d id))
       | false ↦ refl
     ]
 
@@ -140,7 +140,7 @@ change c ls b lsn tx lowest named other t p h = absurd (true≢false (sym t))
 -- ---- one record in front
 
 -- 0 is below the LSN of a record that may stand there
-above_zero : (lsn tx lowest named : ℕ) (a : Action) → IsTrue (allowed lsn (rec tx lowest named a)) → (IsTrue (kind_allows lsn a tx named)) × (0 < lsn)
+above_zero : (lsn tx lowest named : ℕ) (a : Action) → IsTrue (is_allowed lsn (rec tx lowest named a)) → (IsTrue (kind_allows lsn a tx named)) × (0 < lsn)
 above_zero lsn tx lowest named a ok =
     let all = and_parts _ (has_words a) ok in
     let most = and_parts _ (nat_le lowest lsn) all.0 in
@@ -170,25 +170,25 @@ commits_decide commits later lsn tx lowest named (Delete id) t h = ap (λ v. (tx
 commits_decide commits later lsn tx lowest named (Compaction id key value) t h = refl
 commits_decide commits later lsn tx lowest named other t h = absurd (true≢false (sym t))
 
-changed : (c : Chain) (later : List Numbered) (lsn tx lowest named : ℕ) (a : Action) → is_change a ≡ true → 0 < lsn → AreCommits c.transactions later → HoldsOf c (committed_of later)
-    → HoldsOf (flat c (is_committed c.transactions tx a) lsn (rec tx lowest named a)) (committed_of (at_lsn lsn (rec tx lowest named a) ∷ later))
+changed : (c : Chain) (later : List Numbered) (lsn tx lowest named : ℕ) (a : Action) → is_change a ≡ true → 0 < lsn → AreCommits c.transactions later → HoldsOf c (committed_records later)
+    → HoldsOf (flat c (is_committed c.transactions tx a) lsn (rec tx lowest named a)) (committed_records (at_lsn lsn (rec tx lowest named a) ∷ later))
 changed c later lsn tx lowest named a t p cs h =
-    let P : Bool → Type 0 = λ v. HoldsOf (flat c (is_committed c.transactions tx a) lsn (rec tx lowest named a)) (in_front v lsn (rec tx lowest named a) (committed_of later)) in
-    subst P (commits_decide c.transactions later lsn tx lowest named a t cs) (change c (committed_of later) (is_committed c.transactions tx a) lsn tx lowest named a t p h)
+    let P : Bool → Type 0 = λ v. HoldsOf (flat c (is_committed c.transactions tx a) lsn (rec tx lowest named a)) (in_front v lsn (rec tx lowest named a) (committed_records later)) in
+    subst P (commits_decide c.transactions later lsn tx lowest named a t cs) (change c (committed_records later) (is_committed c.transactions tx a) lsn tx lowest named a t p h)
 
 -- what is held after one record in front
-held : (c : Chain) (later : List Numbered) (lsn tx lowest named : ℕ) (a : Action) → IsTrue (kind_allows lsn a tx named) → 0 < lsn → AreCommits c.transactions later → HoldsOf c (committed_of later)
-    → HoldsOf (flat c (is_committed c.transactions tx a) lsn (rec tx lowest named a)) (committed_of (at_lsn lsn (rec tx lowest named a) ∷ later))
-held c later lsn tx lowest named Begin k p cs h = silent c (committed_of later) (committed (at_lsn lsn (rec tx lowest named Begin)) later) lsn (rec tx lowest named Begin) (eqb-true _ _ (and_parts _ _ k).1) (λ _. refl) refl h
-held c later lsn tx lowest named Commit k p cs h = silent c (committed_of later) (committed (at_lsn lsn (rec tx lowest named Commit)) later) lsn (rec tx lowest named Commit) (eqb-true _ _ (and_parts _ _ k).1) (λ _. refl) refl h
-held c later lsn tx lowest named Mark k p cs h = silent c (committed_of later) (committed (at_lsn lsn (rec tx lowest named Mark)) later) lsn (rec tx lowest named Mark) (eqb-true _ _ (and_parts _ _ k).1) (λ _. refl) refl h
-held c later lsn tx lowest named Abandon k p cs h = silent c (committed_of later) (committed (at_lsn lsn (rec tx lowest named Abandon)) later) lsn (rec tx lowest named Abandon) (eqb-true _ _ (and_parts _ _ k).1) (λ _. refl) refl h
+held : (c : Chain) (later : List Numbered) (lsn tx lowest named : ℕ) (a : Action) → IsTrue (kind_allows lsn a tx named) → 0 < lsn → AreCommits c.transactions later → HoldsOf c (committed_records later)
+    → HoldsOf (flat c (is_committed c.transactions tx a) lsn (rec tx lowest named a)) (committed_records (at_lsn lsn (rec tx lowest named a) ∷ later))
+held c later lsn tx lowest named Begin k p cs h = silent c (committed_records later) (committed (at_lsn lsn (rec tx lowest named Begin)) later) lsn (rec tx lowest named Begin) (eqb-true _ _ (and_parts _ _ k).1) (λ _. refl) refl h
+held c later lsn tx lowest named Commit k p cs h = silent c (committed_records later) (committed (at_lsn lsn (rec tx lowest named Commit)) later) lsn (rec tx lowest named Commit) (eqb-true _ _ (and_parts _ _ k).1) (λ _. refl) refl h
+held c later lsn tx lowest named Mark k p cs h = silent c (committed_records later) (committed (at_lsn lsn (rec tx lowest named Mark)) later) lsn (rec tx lowest named Mark) (eqb-true _ _ (and_parts _ _ k).1) (λ _. refl) refl h
+held c later lsn tx lowest named Abandon k p cs h = silent c (committed_records later) (committed (at_lsn lsn (rec tx lowest named Abandon)) later) lsn (rec tx lowest named Abandon) (eqb-true _ _ (and_parts _ _ k).1) (λ _. refl) refl h
 held c later lsn tx lowest named (Put id key value) k p cs h = changed c later lsn tx lowest named (Put id key value) refl p cs h
 held c later lsn tx lowest named (Remove id key) k p cs h = changed c later lsn tx lowest named (Remove id key) refl p cs h
 held c later lsn tx lowest named (Delete id) k p cs h = changed c later lsn tx lowest named (Delete id) refl p cs h
 held c later lsn tx lowest named (Compaction id key value) k p cs h = changed c later lsn tx lowest named (Compaction id key value) refl p cs h
 
-pub one_more : (c : Chain) (later : List Numbered) (lsn : ℕ) (r : Record) → IsTrue (allowed lsn r) → HasSeen c later → HasSeen (passed c lsn r) (record { lsn = lsn; what = r } ∷ later)
+pub one_more : (c : Chain) (later : List Numbered) (lsn : ℕ) (r : Record) → IsTrue (is_allowed lsn r) → HasSeen c later → HasSeen (passed c lsn r) (record { lsn = lsn; what = r } ∷ later)
 one_more c later lsn r ok h =
     let known = above_zero lsn r.tx r.lowest r.named r.action ok in
     let parts = held c later lsn r.tx r.lowest r.named r.action known.0 known.1 h.commits (record { named = h.named; deleted = h.deleted; kept = h.kept }) in

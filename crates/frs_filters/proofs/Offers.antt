@@ -4,7 +4,7 @@ use Rattle.frs_types.specs.declared.record.Action.{Action}
 use Rattle.frs_types.specs.declared.record.Action.TheVariants.{Put, Remove, Delete, Begin, Commit, Compaction, Mark, Abandon}
 use Rattle.frs_types.specs.declared.record.Record.{Record}
 use Rattle.frs_types.specs.Records.{Numbered}
-use Rattle.frs_types.specs.Survivors.{deletes}
+use Rattle.frs_types.specs.Survivors.{is_delete_of}
 use Rattle.frs_filters.specs.Filters.{has, has_map, with_commit, with_named, with_deleted}
 use Rattle.frs_filters.specs.Offered.{after_all, commits_in, names_in, deletes_in}
 use Rattle.frs_filters.proofs.Notes.{has-number, has-id}
@@ -18,7 +18,7 @@ pub names_noted : (later : List Numbered) (n : ℕ) → has nat_cmp (after_all (
 names_noted [] n = refl
 names_noted (q ∷ later) n = has-number _ q.what.named n _ (names_noted later n)
 
-one_deletes : (gone : List (List ℕ)) (a : Action) (id : List ℕ) (rest : Bool) → has_map gone id ≡ rest → has_map (with_deleted gone a) id ≡ (deletes id a || rest)
+one_deletes : (gone : List (List ℕ)) (a : Action) (id : List ℕ) (rest : Bool) → has_map gone id ≡ rest → has_map (with_deleted gone a) id ≡ (is_delete_of id a || rest)
 one_deletes gone (Delete other) id rest h = has-id gone other id rest h
 one_deletes gone (Put other key value) id rest h = h
 one_deletes gone (Remove other key) id rest h = h

@@ -10,8 +10,8 @@ use Rattle.frs_types.specs.declared.record.Action.TheVariants.{Put, Remove, Dele
 use Rattle.frs_types.specs.declared.record.Record.{Record}
 use Rattle.frs_types.specs.declared.record.Entry.{Entry}
 use Rattle.frs_types.specs.Maps.{Place, same_place}
-use Rattle.frs_types.specs.Records.{Numbered, numbered_from}
-use Rattle.frs_types.specs.Survivors.{entry_by, committed, committed_of, with_entry, survivors_of, open_begins, deletes}
+use Rattle.frs_types.specs.Records.{Numbered, numbered_records_from}
+use Rattle.frs_types.specs.Survivors.{entry_by, committed, committed_records, with_entry, survivors_of, open_begins, is_delete_of}
 
 -- ---- numbers that rise, all of them from low on and below high
 
@@ -41,20 +41,20 @@ rising_of low high (n ∷ m ∷ ns) r (suc k) l =
 abbrev pub lsns_of : List Numbered → List ℕ
 lsns_of qs = map (λ (q : Numbered). q.lsn) qs
 
-numbered_rise : (n : ℕ) (rs : List Record) → RiseIn n (n + length rs) (lsns_of (numbered_from n rs))
+numbered_rise : (n : ℕ) (rs : List Record) → RiseIn n (n + length rs) (lsns_of (numbered_records_from n rs))
 numbered_rise n [] = tt
 numbered_rise n (r ∷ rs) =
     let same : (n + 1) + length rs ≡ n + length (r ∷ rs) = omega arith in
-    (omega arith, omega arith, subst (λ high. RiseIn (n + 1) high (lsns_of (numbered_from (n + 1) rs))) same (numbered_rise (n + 1) rs))
+    (omega arith, omega arith, subst (λ high. RiseIn (n + 1) high (lsns_of (numbered_records_from (n + 1) rs))) same (numbered_rise (n + 1) rs))
 
 kept_rise : (b : Bool) (q : Numbered) (later : List Numbered) (low high : ℕ) → low ≤ q.lsn → q.lsn < high → RiseIn (q.lsn + 1) high (lsns_of later)
     → RiseIn low high (lsns_of (if b then q ∷ later else later))
 kept_rise true q later low high least most r = (least, most, r)
 kept_rise false q later low high least most r = rise_from (q.lsn + 1) low high (lsns_of later) (omega (arith, least)) r
 
-committed_rise : (low high : ℕ) (qs : List Numbered) → RiseIn low high (lsns_of qs) → RiseIn low high (lsns_of (committed_of qs))
+committed_rise : (low high : ℕ) (qs : List Numbered) → RiseIn low high (lsns_of qs) → RiseIn low high (lsns_of (committed_records qs))
 committed_rise low high [] r = tt
-committed_rise low high (q ∷ later) r = kept_rise (committed q later) q (committed_of later) low high r.0 r.1 (committed_rise (q.lsn + 1) high later r.2)
+committed_rise low high (q ∷ later) r = kept_rise (committed q later) q (committed_records later) low high r.0 r.1 (committed_rise (q.lsn + 1) high later r.2)
 
 -- ---- LSNs of entries
 
@@ -89,7 +89,7 @@ survivors_rise low high [] r = tt
 survivors_rise low high (q ∷ later) r =
     with_entry_rise (entry_by q.lsn q.what.action) later (survivors_of later) q.lsn low high (entry_lsn q.lsn q.what.action) r.0 r.1 (survivors_rise (q.lsn + 1) high later r.2)
 
-pub all_rise : (first : ℕ) (rs : List Record) → RiseIn first (first + length rs) (entry_lsns (survivors_of (committed_of (numbered_from first rs))))
+pub all_rise : (first : ℕ) (rs : List Record) → RiseIn first (first + length rs) (entry_lsns (survivors_of (committed_records (numbered_records_from first rs))))
 all_rise first rs = survivors_rise first (first + length rs) _ (committed_rise first (first + length rs) _ (numbered_rise first rs))
 
 -- ---- open begins
@@ -102,7 +102,7 @@ begins_rise : (low high : ℕ) (qs : List Numbered) → RiseIn low high (lsns_of
 begins_rise low high [] r = tt
 begins_rise low high (q ∷ later) r = begun_rise _ q.lsn (open_begins later) low high r.0 r.1 (begins_rise (q.lsn + 1) high later r.2)
 
-pub open_rise : (first : ℕ) (rs : List Record) → RiseIn first (first + length rs) (open_begins (numbered_from first rs))
+pub open_rise : (first : ℕ) (rs : List Record) → RiseIn first (first + length rs) (open_begins (numbered_records_from first rs))
 open_rise first rs = begins_rise first (first + length rs) _ (numbered_rise first rs)
 
 -- ---- places of entries
@@ -128,7 +128,7 @@ older_apart false false e newer is apart = IsDistinct-cons same_place (e.id, e.k
 with_entry_apart : (made : Option Entry) (later : List Numbered) (newer : List Entry) → IsDistinct same_place (places_of newer) → IsDistinct same_place (places_of (with_entry made later newer))
 with_entry_apart None later newer apart = apart
 with_entry_apart (Some e) later newer apart =
-    older_apart (list_any (λ (l : Numbered). l.what.named == e.lsn) later || list_any (λ (l : Numbered). deletes e.id l.what.action) later) _ e newer refl apart
+    older_apart (list_any (λ (l : Numbered). l.what.named == e.lsn) later || list_any (λ (l : Numbered). is_delete_of e.id l.what.action) later) _ e newer refl apart
 
 pub survivors_apart : (qs : List Numbered) → IsDistinct same_place (places_of (survivors_of qs))
 unfolding IsDistinct

@@ -6,7 +6,7 @@ use Rattle.std.specs.BTreeSet.{insert_key}
 use Rattle.frs_types.specs.declared.record.Action.{Action}
 use Rattle.frs_types.specs.declared.record.Action.TheVariants.{Begin, Commit, Mark, Abandon}
 use Rattle.frs_types.specs.Records.{Numbered}
-use Rattle.frs_types.specs.Survivors.{ends_by, open_begins, least}
+use Rattle.frs_types.specs.Survivors.{is_ended_by, open_begins, least}
 use Rattle.frs_filters.specs.Filters.{has}
 
 -- the transactions that were ended, whether a mark ended all older ones, and the least begin that stays open
@@ -36,5 +36,5 @@ with_noted b lsn tx other = b
 
 -- These records, listed oldest first, were offered from the last to the first.
 pub record HasNoted (b : Begins) (later : List Numbered) : Type 0 where
-  pub ended : (tx : ℕ) → is_ended b tx ≡ list_any (λ (l : Numbered). ends_by tx l.what.tx l.what.action) later
+  pub ended : (tx : ℕ) → is_ended b tx ≡ list_any (λ (l : Numbered). is_ended_by tx l.what.tx l.what.action) later
   pub lowest : (n : ℕ) → least n (open_begins later) ≡ or_lower n b.lowest

@@ -4,7 +4,7 @@ use Rattle.std.specs.List.{list_any}
 use Rattle.std.specs.Ordering.{nat_cmp}
 use Rattle.frs_types.specs.declared.record.Record.{Record}
 use Rattle.frs_types.specs.Records.{Numbered}
-use Rattle.frs_types.specs.Survivors.{is_commit, deletes, committed_of, survivors_of}
+use Rattle.frs_types.specs.Survivors.{is_commit, is_delete_of, committed_records, survivors_of}
 use Rattle.frs_filters.specs.declared.chain.Chain.{Chain}
 use Rattle.frs_filters.specs.Filters.{has, has_map, given_if, is_committed, with_commit, is_unnamed, with_named, is_undeleted, with_deleted, with_replayed}
 
@@ -30,6 +30,6 @@ passed c lsn r = past_transactions (record c { transactions = with_commit c.tran
 -- The chain was offered these records, listed oldest first, from the last to the first.
 pub record HasSeen (c : Chain) (later : List Numbered) : Type 0 where
   pub commits : (tx : ℕ) → has nat_cmp c.transactions tx ≡ list_any (λ (l : Numbered). is_commit l.what.action && (l.what.tx == tx)) later
-  pub named : (n : ℕ) → 0 < n → has nat_cmp c.skips n ≡ list_any (λ (l : Numbered). l.what.named == n) (committed_of later)
-  pub deleted : (id : List ℕ) → has_map c.deletes id ≡ list_any (λ (l : Numbered). deletes id l.what.action) (committed_of later)
-  pub kept : c.replay ≡ survivors_of (committed_of later)
+  pub named : (n : ℕ) → 0 < n → has nat_cmp c.skips n ≡ list_any (λ (l : Numbered). l.what.named == n) (committed_records later)
+  pub deleted : (id : List ℕ) → has_map c.deletes id ≡ list_any (λ (l : Numbered). is_delete_of id l.what.action) (committed_records later)
+  pub kept : c.replay ≡ survivors_of (committed_records later)

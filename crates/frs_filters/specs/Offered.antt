@@ -3,7 +3,7 @@ use Rattle.std.specs.Prelude.{ℕ, Bool, ◌&&◌, ◌==◌, List, [], ◌∷◌
 use Rattle.std.specs.List.{list_any}
 use Rattle.frs_types.specs.declared.record.Record.{Record}
 use Rattle.frs_types.specs.Records.{Numbered}
-use Rattle.frs_types.specs.Survivors.{is_commit, deletes}
+use Rattle.frs_types.specs.Survivors.{is_commit, is_delete_of}
 
 -- the notes of a filter that was offered these records, listed oldest first, from the last to the first
 abbrev pub after_all : {S : Type 0} → (S → ℕ → Record → S) → S → List Numbered → S
@@ -19,4 +19,4 @@ abbrev pub names_in : List Numbered → ℕ → Bool
 names_in later n = list_any (λ (l : Numbered). l.what.named == n) later
 
 abbrev pub deletes_in : List Numbered → List ℕ → Bool
-deletes_in later id = list_any (λ (l : Numbered). deletes id l.what.action) later
+deletes_in later id = list_any (λ (l : Numbered). is_delete_of id l.what.action) later

@@ -18,8 +18,8 @@ pub struct Chain {
 
 impl Chain {
     ghost use Rattle.std.specs.Prelude.{◌≡◌, List, [], ◌∷◌, IsTrue, OnOk};
-    ghost use Rattle.frs_types.specs.Records.{Numbered, allowed};
-    ghost use Rattle.frs_types.specs.Survivors.{committed_of, survivors_of};
+    ghost use Rattle.frs_types.specs.Records.{Numbered, is_allowed};
+    ghost use Rattle.frs_types.specs.Survivors.{committed_records, survivors_of};
     ghost use Rattle.frs_filters.specs.Chain.{HasSeen, passed};
 
     /// A chain that was offered nothing.
@@ -37,7 +37,7 @@ impl Chain {
     /// Offers the record that stands before all those that were offered. Its condition is that the record may stand at
     /// this LSN. Where there was no memory, the chain has lost the record and is of no more use.
     pub fn offer(&mut self, lsn: u64, r: Record) -> Result<(), NoMemory>
-        requires { IsTrue (allowed lsn r) }
+        requires { IsTrue (is_allowed lsn r) }
         ensures { (later : List Numbered) → HasSeen self.old later → OnOk result (HasSeen self.new (record { lsn = lsn; what = r } ∷ later)) }
     {
         self.pass(lsn, r)
@@ -45,7 +45,7 @@ impl Chain {
 
     /// The survivors of the records that were offered, rising by LSN.
     pub fn entries(self) -> Vec<Entry>
-        ensures { (later : List Numbered) → HasSeen self later → result.items ≡ survivors_of (committed_of later) }
+        ensures { (later : List Numbered) → HasSeen self later → result.items ≡ survivors_of (committed_records later) }
     {
         let Chain { replay, .. } = self;
         replay.entries()

@@ -6,8 +6,8 @@ ghost use Rattle.std.specs.Ordering.{nat_cmp};
 ghost use Rattle.frs_types.specs.declared.record.Record.{Record};
 ghost use Rattle.frs_types.specs.declared.record.Entry.{Entry};
 ghost use Rattle.frs_types.specs.Maps.{same_place};
-ghost use Rattle.frs_types.specs.Records.{Numbered, numbered_from};
-ghost use Rattle.frs_types.specs.Survivors.{committed_of, survivors_of, open_begins};
+ghost use Rattle.frs_types.specs.Records.{Numbered, numbered_records_from};
+ghost use Rattle.frs_types.specs.Survivors.{committed_records, survivors_of, open_begins};
 ghost use Rattle.frs_filters.specs.Filters.{has, has_map};
 ghost use Rattle.frs_filters.specs.Offered.{after_all, commits_in, names_in, deletes_in};
 
@@ -28,9 +28,9 @@ pub fn notes_of_offered()
 /// Of records whose LSNs follow each other from `first` on, no two survivors have one place, and the survivors' LSNs rise
 /// and are among those of the records. The LSNs of open begins rise too, and are among those of the records.
 pub fn survivors_in_order()
-    ensures places { (first : ℕ) (rs : List Record) → IsDistinct same_place (map (λ (e : Entry). (e.id, e.key)) (survivors_of (committed_of (numbered_from first rs)))) }
-    ensures rising { (first : ℕ) (rs : List Record) → IsStrictlyIncreasing (map (λ (e : Entry). e.lsn) (survivors_of (committed_of (numbered_from first rs)))) }
-    ensures within { (first : ℕ) (rs : List Record) → All (λ n. (first ≤ n) × (n < first + length rs)) (map (λ (e : Entry). e.lsn) (survivors_of (committed_of (numbered_from first rs)))) }
-    ensures begins { (first : ℕ) (rs : List Record) → IsStrictlyIncreasing (open_begins (numbered_from first rs)) }
-    ensures begins_within { (first : ℕ) (rs : List Record) → All (λ n. (first ≤ n) × (n < first + length rs)) (open_begins (numbered_from first rs)) }
+    ensures places { (first : ℕ) (rs : List Record) → IsDistinct same_place (map (λ (e : Entry). (e.id, e.key)) (survivors_of (committed_records (numbered_records_from first rs)))) }
+    ensures rising { (first : ℕ) (rs : List Record) → IsStrictlyIncreasing (map (λ (e : Entry). e.lsn) (survivors_of (committed_records (numbered_records_from first rs)))) }
+    ensures within { (first : ℕ) (rs : List Record) → All (λ n. (first ≤ n) × (n < first + length rs)) (map (λ (e : Entry). e.lsn) (survivors_of (committed_records (numbered_records_from first rs)))) }
+    ensures begins { (first : ℕ) (rs : List Record) → IsStrictlyIncreasing (open_begins (numbered_records_from first rs)) }
+    ensures begins_within { (first : ℕ) (rs : List Record) → All (λ n. (first ≤ n) × (n < first + length rs)) (open_begins (numbered_records_from first rs)) }
 {}

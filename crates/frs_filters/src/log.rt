@@ -1,6 +1,6 @@
 //! A whole log through the chain.
 ghost use Rattle.std.specs.Prelude.{◌≡◌, ◌+◌, ◌<◌, ◌^◌, length, IsTrue, IfOk};
-ghost use Rattle.frs_types.specs.Records.{allowed_from};
+ghost use Rattle.frs_types.specs.Records.{are_allowed_from};
 ghost use Rattle.frs_types.specs.Survivors.{survivors};
 
 use crate::chain::Chain;
@@ -14,7 +14,7 @@ pub fn survivors_of_log(
     first: u64,
     records: Vec<Record>,
 ) -> Result<Vec<Entry>, NoMemory>
-    requires allowed { IsTrue (allowed_from first records.items) }
+    requires allowed { IsTrue (are_allowed_from first records.items) }
     requires fits { first + length records.items < 2 ^ 64 }
     ensures { IfOk result (λ entries. entries.items ≡ survivors (record { first = first; records = records.items })) }
 {

@@ -1,6 +1,6 @@
 //! Logs made by hand: what the four filters leave of their records, and the lowest that is still needed.
 ghost use Rattle.std.specs.Prelude.{◌≡◌};
-ghost use Rattle.frs_types.specs.Records.{is_id, is_key, is_value, has_words, kind_allows, allowed};
+ghost use Rattle.frs_types.specs.Records.{is_id, is_key, is_value, has_words, kind_allows, is_allowed};
 
 use super::*;
 use frs_types::{Action, Entry, Key, MapId, NoMemory, Record, Value, WordFault};
@@ -109,8 +109,8 @@ fn kind_allows(lsn: u64, action: &Action, tx: u64, named: u64) -> bool
 }
 
 // Whether a record may stand at this LSN.
-fn is_allowed(lsn: u64, r: &Record) -> bool
-    ensures { result ≡ allowed lsn r.now }
+fn may_stand(lsn: u64, r: &Record) -> bool
+    ensures { result ≡ is_allowed lsn r.now }
 {
     kind_allows(lsn, &r.action, r.tx, r.named)
         && r.named < lsn
@@ -136,7 +136,7 @@ fn left_of(rt: &impl Abort, alloc: Global, records: Vec<Record>) -> Result<Left,
     let mut begins = OpenBegins::new(alloc);
     for lsn in (1..lowest).rev() {
         let Some(r) = older.pop() else { break };
-        assert!(rt; is_allowed(lsn, &r), "a record out of its place");
+        assert!(rt; may_stand(lsn, &r), "a record out of its place");
         begins.note(lsn, &r)?;
         chain.offer(lsn, r)?;
     }

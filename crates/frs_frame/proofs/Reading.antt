@@ -15,7 +15,7 @@ use Rattle.frs_frame.specs.declared.kind.Kind.{Kind}
 use Rattle.frs_frame.specs.declared.kind.Kind.TheVariants.{Put, Remove, Delete, Begin, Commit, Compaction, Mark, Abandon}
 use Rattle.frs_frame.specs.Kinds.{kind_of, code, kinds, kind_of_byte, permits_tx, permits_named}
 use Rattle.frs_frame.specs.Spelling.{word_bytes, id_width, key_width, value_width, payload, numbers, spelling}
-use Rattle.frs_frame.specs.Decoding.{Read, ◌>>=◌, Gives, number_at, tested, id_at, key_at, value_at, action_at, kind_or_fault, kind_at, head_at, decoded}
+use Rattle.frs_frame.specs.Decoding.{Read, ◌>>=◌, GivesDecoded, number_at, tested, id_at, key_at, value_at, action_at, kind_or_fault, kind_at, head_at, decoding_of}
 use Rattle.frs_frame.specs.Front.{StandsAtFront}
 use Rattle.frs_frame.proofs.Fields.{IsBytes, bind_ok, ok_is, tested_ok, Takes, Takes-then, Takes-split, Takes-front, wide8, wide16, wide64, number_takes, number_again, word_takes, word_again}
 
@@ -291,8 +291,8 @@ stands bytes r len t fits well =
     record { front = ap (take len) t.parts ∙ take_at (spelling r) (drop len bytes) len (sym len_is); whole = t.parts; len_is = len_is; least = least; within = t.within; fits = fits; well_formed = well }
 
 -- what is read stands there
-pub decoded_takes : (bytes : List ℕ) (x : Record × ℕ) → IsBytes bytes → decoded bytes ≡ Ok x → StandsAtFront bytes x.0 x.1
-unfolding decoded spelling
+pub decoded_takes : (bytes : List ℕ) (x : Record × ℕ) → IsBytes bytes → decoding_of bytes ≡ Ok x → StandsAtFront bytes x.0 x.1
+unfolding decoding_of spelling
 decoded_takes bytes x fits e =
     let a = bind_ok (kind_at bytes) (λ kind. head_at kind.0 bytes kind.1 >>= λ head. action_at kind.0 bytes head.1 >>= λ action. Ok (record { tx = head.0.tx; lowest = head.0.lowest; named = head.0.named; action = action.0 }, action.1)) x e in
     let b = bind_ok (head_at a.0.0 bytes a.0.1) (λ head. action_at a.0.0 bytes head.1 >>= λ action. Ok (record { tx = head.0.tx; lowest = head.0.lowest; named = head.0.named; action = action.0 }, action.1)) x a.2 in
@@ -328,8 +328,8 @@ reads bytes r end fits t =
     record { kind = kind_again bytes (kind_of r.action) 1 h.0; tx = n.0; lowest = n.1; named = n.2; action = action_again r.action bytes 25 end fits.words s.1 }
 
 -- what stands there is read
-pub decoded_again : (bytes : List ℕ) (r : Record) (rest : List ℕ) → Fits r → well_formed r ≡ true → bytes ≡ spelling r ++ rest → decoded bytes ≡ Ok (r, length (spelling r))
-unfolding decoded head_at
+pub decoded_again : (bytes : List ℕ) (r : Record) (rest : List ℕ) → Fits r → well_formed r ≡ true → bytes ≡ spelling r ++ rest → decoding_of bytes ≡ Ok (r, length (spelling r))
+unfolding decoding_of head_at
 decoded_again bytes r rest fits well e =
     let f = reads bytes r (length (spelling r)) fits (Takes-front bytes (spelling r) rest e) in
     let w = both (kind_permits r.action r.tx r.named && ltb 0 r.lowest) (has_words r.action) well in
@@ -365,7 +365,7 @@ one_record r q rest other fits fits' e =
     (records, sym (drop_at (spelling r) rest n refl) ∙ ap (λ (k : ℕ). drop k bytes) len ∙ ap (drop m) e ∙ drop_at (spelling q) other m refl)
 
 -- the same of what a call answered
-pub is_found : (bytes : List ℕ) (answer : Result (Record × ℕ) FrameFault) → IsBytes bytes → Gives (λ x. x) answer (decoded bytes) → IfOk answer (λ x. StandsAtFront bytes x.0 x.1)
+pub is_found : (bytes : List ℕ) (answer : Result (Record × ℕ) FrameFault) → IsBytes bytes → GivesDecoded (λ x. x) answer (decoding_of bytes) → IfOk answer (λ x. StandsAtFront bytes x.0 x.1)
 is_found bytes (Ok x) fits given = decoded_takes bytes x fits given
 is_found bytes (Err fault) fits given = tt
 

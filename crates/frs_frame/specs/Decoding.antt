@@ -23,15 +23,15 @@ abbrev pub ◌>>=◌ : {X Y : Type 0} → Read X → (X × ℕ → Read Y) → R
 (Err fault) >>= f = Err fault
 
 -- What a call answered is what reading gives; want of memory is free.
-abbrev pub Fails : {Y : Type 0} → FrameFault → Read Y → Type 0
-Fails faults.Memory read = Unit {0}
-Fails (faults.Kind byte) read = read ≡ Err (faults.Kind byte)
-Fails (faults.Short need have) read = read ≡ Err (faults.Short need have)
-Fails (faults.Field offset) read = read ≡ Err (faults.Field offset)
+abbrev pub FailsDecoding : {Y : Type 0} → FrameFault → Read Y → Type 0
+FailsDecoding faults.Memory read = Unit {0}
+FailsDecoding (faults.Kind byte) read = read ≡ Err (faults.Kind byte)
+FailsDecoding (faults.Short need have) read = read ≡ Err (faults.Short need have)
+FailsDecoding (faults.Field offset) read = read ≡ Err (faults.Field offset)
 
-abbrev pub Gives : {X Y : Type 0} → (X → Y × ℕ) → Result X FrameFault → Read Y → Type 0
-Gives view (Ok x) read = read ≡ Ok (view x)
-Gives view (Err fault) read = Fails fault read
+abbrev pub GivesDecoded : {X Y : Type 0} → (X → Y × ℕ) → Result X FrameFault → Read Y → Type 0
+GivesDecoded view (Ok x) read = read ≡ Ok (view x)
+GivesDecoded view (Err fault) read = FailsDecoding fault read
 
 -- the bytes of a field from one offset to another, where they are there
 unfoldable pub field : List ℕ → ℕ → ℕ → Read (List ℕ)
@@ -85,7 +85,7 @@ head_at kind bytes at =
     Ok (record { tx = tx.0; lowest = lowest.0; named = named.0 }, named.1)
 
 -- the record at the front, and its length
-unfoldable pub decoded : List ℕ → Read Record
-decoded bytes =
+unfoldable pub decoding_of : List ℕ → Read Record
+decoding_of bytes =
     kind_at bytes >>= λ kind. head_at kind.0 bytes kind.1 >>= λ head. action_at kind.0 bytes head.1 >>= λ action.
     Ok (record { tx = head.0.tx; lowest = head.0.lowest; named = head.0.named; action = action.0 }, action.1)

@@ -5,7 +5,7 @@ ghost use Rattle.frs_types.specs.declared.record.Record.{Record as Described};
 ghost use Rattle.frs_types.specs.Records.{Fits, well_formed};
 ghost use Rattle.frs_frame.specs.Spelling.{spelling};
 ghost use Rattle.frs_frame.specs.Front.{StandsAtFront};
-ghost use Rattle.frs_frame.specs.Decoding.{Gives, field, number_at, id_at, key_at, value_at, action_at, kind_at, head_at, decoded};
+ghost use Rattle.frs_frame.specs.Decoding.{GivesDecoded, field, number_at, id_at, key_at, value_at, action_at, kind_at, head_at, decoding_of};
 
 use crate::fault::FrameFault;
 use crate::kind::Kind;
@@ -25,7 +25,7 @@ struct Head {
 fn field(bytes: &[u8], at: usize, len: usize) -> Result<(&[u8], usize), FrameFault>
     requires inside { at ≤ length bytes.now }
     requires few { len ≤ 65535 }
-    ensures read { Gives (λ f. (f.0.now, f.1)) result (field bytes.now at (at + len)) }
+    ensures read { GivesDecoded (λ f. (f.0.now, f.1)) result (field bytes.now at (at + len)) }
     ensures found { IfOk result (λ f. (f.1 ≡ at + len) × (f.1 ≤ length bytes.now) × (length f.0.now ≡ len)) }
 {
     let end = at + len;
@@ -42,7 +42,7 @@ fn field(bytes: &[u8], at: usize, len: usize) -> Result<(&[u8], usize), FrameFau
 #[tactic(auto, unfolding(crate::specs::Decoding::number_at))]
 fn u8_at(bytes: &[u8], at: usize) -> Result<(u8, usize), FrameFault>
     requires { at ≤ length bytes.now }
-    ensures read { Gives (λ f. (f.0, f.1)) result (number_at w8 bytes.now at) }
+    ensures read { GivesDecoded (λ f. (f.0, f.1)) result (number_at w8 bytes.now at) }
     ensures found { IfOk result (λ f. f.1 ≤ length bytes.now) }
 {
     let (field, end) = field(bytes, at, 1)?;
@@ -53,7 +53,7 @@ fn u8_at(bytes: &[u8], at: usize) -> Result<(u8, usize), FrameFault>
 #[tactic(auto, unfolding(crate::specs::Decoding::number_at))]
 fn u16_at(bytes: &[u8], at: usize) -> Result<(u16, usize), FrameFault>
     requires { at ≤ length bytes.now }
-    ensures read { Gives (λ f. (f.0, f.1)) result (number_at w16 bytes.now at) }
+    ensures read { GivesDecoded (λ f. (f.0, f.1)) result (number_at w16 bytes.now at) }
     ensures found { IfOk result (λ f. f.1 ≤ length bytes.now) }
 {
     let (field, end) = field(bytes, at, 2)?;
@@ -64,7 +64,7 @@ fn u16_at(bytes: &[u8], at: usize) -> Result<(u16, usize), FrameFault>
 #[tactic(auto, unfolding(crate::specs::Decoding::number_at))]
 fn u64_at(bytes: &[u8], at: usize) -> Result<(u64, usize), FrameFault>
     requires { at ≤ length bytes.now }
-    ensures read { Gives (λ f. (f.0, f.1)) result (number_at w64 bytes.now at) }
+    ensures read { GivesDecoded (λ f. (f.0, f.1)) result (number_at w64 bytes.now at) }
     ensures found { IfOk result (λ f. f.1 ≤ length bytes.now) }
 {
     let (field, end) = field(bytes, at, 8)?;
@@ -78,7 +78,7 @@ fn u64_at(bytes: &[u8], at: usize) -> Result<(u64, usize), FrameFault>
 #[tactic(auto, unfolding(crate::specs::Decoding::id_at, crate::specs::Decoding::word_at))]
 fn id_at(alloc: Global, bytes: &[u8], at: usize) -> Result<(MapId, usize), FrameFault>
     requires { at ≤ length bytes.now }
-    ensures read { Gives (λ f. (f.0, f.1)) result (id_at bytes.now at) }
+    ensures read { GivesDecoded (λ f. (f.0, f.1)) result (id_at bytes.now at) }
     ensures found { IfOk result (λ f. f.1 ≤ length bytes.now) }
 {
     let (len, start) = u8_at(bytes, at)?;
@@ -96,7 +96,7 @@ fn id_at(alloc: Global, bytes: &[u8], at: usize) -> Result<(MapId, usize), Frame
 #[tactic(auto, unfolding(crate::specs::Decoding::key_at, crate::specs::Decoding::word_at))]
 fn key_at(alloc: Global, bytes: &[u8], at: usize) -> Result<(Key, usize), FrameFault>
     requires { at ≤ length bytes.now }
-    ensures read { Gives (λ f. (f.0, f.1)) result (key_at bytes.now at) }
+    ensures read { GivesDecoded (λ f. (f.0, f.1)) result (key_at bytes.now at) }
     ensures found { IfOk result (λ f. f.1 ≤ length bytes.now) }
 {
     let (len, start) = u8_at(bytes, at)?;
@@ -114,7 +114,7 @@ fn key_at(alloc: Global, bytes: &[u8], at: usize) -> Result<(Key, usize), FrameF
 #[tactic(auto, unfolding(crate::specs::Decoding::value_at, crate::specs::Decoding::word_at))]
 fn value_at(alloc: Global, bytes: &[u8], at: usize) -> Result<(Value, usize), FrameFault>
     requires { at ≤ length bytes.now }
-    ensures read { Gives (λ f. (f.0, f.1)) result (value_at bytes.now at) }
+    ensures read { GivesDecoded (λ f. (f.0, f.1)) result (value_at bytes.now at) }
     ensures found { IfOk result (λ f. f.1 ≤ length bytes.now) }
 {
     let (len, start) = u16_at(bytes, at)?;
@@ -134,7 +134,7 @@ fn action_at(
     at: usize,
 ) -> Result<(Action, usize), FrameFault>
     requires { at ≤ length bytes.now }
-    ensures { Gives (λ f. (f.0, f.1)) result (action_at kind bytes.now at) }
+    ensures { GivesDecoded (λ f. (f.0, f.1)) result (action_at kind bytes.now at) }
 {
     match kind {
         Kind::Put => {
@@ -168,7 +168,7 @@ fn action_at(
 // The kind that the first byte stands for.
 #[tactic(auto, unfolding(crate::specs::Decoding::kind_at))]
 fn kind_at(bytes: &[u8]) -> Result<(Kind, usize), FrameFault>
-    ensures read { Gives (λ f. (f.0, f.1)) result (kind_at bytes.now) }
+    ensures read { GivesDecoded (λ f. (f.0, f.1)) result (kind_at bytes.now) }
     ensures found { IfOk result (λ f. f.1 ≤ length bytes.now) }
 {
     let (byte, end) = u8_at(bytes, 0)?;
@@ -182,7 +182,7 @@ fn kind_at(bytes: &[u8]) -> Result<(Kind, usize), FrameFault>
 #[tactic(auto, unfolding(crate::specs::Decoding::head_at))]
 fn head_at(kind: Kind, bytes: &[u8], at: usize) -> Result<(Head, usize), FrameFault>
     requires { at ≤ length bytes.now }
-    ensures read { Gives (λ f. (f.0, f.1)) result (head_at kind bytes.now at) }
+    ensures read { GivesDecoded (λ f. (f.0, f.1)) result (head_at kind bytes.now at) }
     ensures found { IfOk result (λ f. f.1 ≤ length bytes.now) }
 {
     let (tx, lowest_at) = u64_at(bytes, at)?;
@@ -205,9 +205,9 @@ fn head_at(kind: Kind, bytes: &[u8], at: usize) -> Result<(Head, usize), FrameFa
 }
 
 // The record at the front, and its length.
-#[tactic(auto, unfolding(crate::specs::Decoding::decoded))]
+#[tactic(auto, unfolding(crate::specs::Decoding::decoding_of))]
 fn record_at_front(alloc: Global, bytes: &[u8]) -> Result<(Record, u64), FrameFault>
-    ensures { Gives (λ f. (f.0, f.1)) result (decoded bytes.now) }
+    ensures { GivesDecoded (λ f. (f.0, f.1)) result (decoding_of bytes.now) }
 {
     let (kind, at) = kind_at(bytes)?;
     let (head, at) = head_at(kind, bytes, at)?;
@@ -232,10 +232,10 @@ pub fn decode(alloc: Global, bytes: &[u8]) -> Result<(Record, u64), FrameFault>
     ensures found { IfOk result (λ x. StandsAtFront bytes.now x.0 x.1) }
 
     // What stands at the front and is allowed is read, unless memory runs out.
-    ensures only { (r : Described) (rest : List ℕ) → Fits r → IsTrue (well_formed r) → bytes.now ≡ spelling r ++ rest → Gives (λ x. x) result (Ok (r, length (spelling r))) }
+    ensures only { (r : Described) (rest : List ℕ) → Fits r → IsTrue (well_formed r) → bytes.now ≡ spelling r ++ rest → GivesDecoded (λ x. x) result (Ok (r, length (spelling r))) }
 
     // Which fault it is.
-    ensures exact { Gives (λ x. x) result (decoded bytes.now) }
+    ensures exact { GivesDecoded (λ x. x) result (decoding_of bytes.now) }
 {
     record_at_front(alloc, bytes)
 }

@@ -1,7 +1,7 @@
 //! What holds of the spellings of all records.
 ghost use Rattle.std.specs.Prelude.{◌≡◌, List, ℕ, [], ◌++◌, ◌≤◌, length, IsTrue};
 ghost use Rattle.frs_types.specs.declared.record.Record.{Record};
-ghost use Rattle.frs_types.specs.Records.{Fits, well_formed, allowed};
+ghost use Rattle.frs_types.specs.Records.{Fits, well_formed, is_allowed};
 ghost use Rattle.frs_frame.specs.Spelling.{spelling};
 
 /// No bytes are two records: from the front of bytes at most one record can be read, and what is behind it is then
@@ -14,7 +14,7 @@ pub fn one_spelling()
 
 /// A record that may stand at an LSN is one that `decode` gives.
 pub fn allowed_is_well_formed()
-    ensures { (n : ℕ) (r : Record) → IsTrue (allowed n r) → IsTrue (well_formed r) }
+    ensures { (n : ℕ) (r : Record) → IsTrue (is_allowed n r) → IsTrue (well_formed r) }
 {}
 
 /// A record has at least the 25 bytes of its head, and at most 65,883.

@@ -12,7 +12,7 @@ use Rattle.frs_history.specs.declared.event.What.TheVariants as what
 use Rattle.frs_history.specs.declared.event.Event.{Event}
 use Rattle.frs_types.specs.Maps.{Maps, Change, at}
 use Rattle.frs_types.specs.Maps.Change.{Set, Take, Clear}
-use Rattle.frs_types.specs.Locks.{holder, nobody, waiting, is_free}
+use Rattle.frs_types.specs.Locks.{holder_at, nobody, with_wait, is_free}
 use Rattle.frs_history.specs.Machine.{Changes, Transaction, State, Scripts, Outcome, start, client, with_client, next_line, outcome}
 use Rattle.frs_history.specs.Machine.Transaction.{Outside, Active, Abandoned}
 use Rattle.frs_history.specs.Machine.Outcome.{Answers, Waits_for, Never}
@@ -37,7 +37,7 @@ if_answers r Never = None
 -- the state in which the wait is noted, where the outcome is a wait and none was noted
 abbrev pub if_waits : State → ℕ → Outcome → Option State
 if_waits s c (Answers given after) = None
-if_waits s c (Waits_for lock) = if is_none (holder s.holders c).waits then Some (record s { holders = waiting s.holders c lock }) else None
+if_waits s c (Waits_for lock) = if is_none (holder_at s.holders c).waits then Some (record s { holders = with_wait s.holders c lock }) else None
 if_waits s c Never = None
 
 -- what f makes of the command, where there is one and its line has this number
@@ -136,5 +136,5 @@ is_owed_by tx x other = false
 abbrev pub is_owed : Moment → Bool
 is_owed m = is_owed_by (tx_of m) m.command m.event.what
 
-abbrev pub owed : List Moment → List Event
-owed ms = map (λ (m : Moment). m.event) (filter is_owed ms)
+abbrev pub owed_events : List Moment → List Event
+owed_events ms = map (λ (m : Moment). m.event) (filter is_owed ms)

@@ -8,9 +8,9 @@ use Rattle.frs_types.specs.declared.lock.Lock.{Lock}
 use Rattle.frs_types.specs.declared.lock.Lock.TheVariants.{OnKey, OnMap}
 use Rattle.frs_history.specs.declared.event.Reply.{Reply}
 use Rattle.frs_history.specs.declared.event.Reply.TheVariants as reply
-use Rattle.frs_types.specs.Maps.{Maps, Change, at, changed, changed_by}
+use Rattle.frs_types.specs.Maps.{Maps, Change, at, table_after, table_after_all}
 use Rattle.frs_types.specs.Maps.Change.{Set, Take, Clear}
-use Rattle.frs_types.specs.Locks.{Holder, Holders, nobody, holder, kept, hinderers, ring}
+use Rattle.frs_types.specs.Locks.{Holder, Holders, nobody, holder_at, with_lock, hinderers, ring}
 
 -- ---- states
 
@@ -60,11 +60,11 @@ next_line scripts s c = slice_get (slice_index_or ([] ∷ scripts) c []) (client
 -- the maps as a transaction sees them
 abbrev pub seen_by : Transaction → Maps → Maps
 seen_by Outside m = m
-seen_by (Active sync changes) m = changed_by m changes
+seen_by (Active sync changes) m = table_after_all m changes
 seen_by Abandoned m = m
 
-abbrev pub seen : State → ℕ → Maps
-seen s c = seen_by (client s c).tx s.maps
+abbrev pub maps_seen : State → ℕ → Maps
+maps_seen s c = seen_by (client s c).tx s.maps
 
 -- ---- outcomes
 
@@ -82,13 +82,13 @@ answers s c r tx locks = Answers r (with_client s c (record { done = (client s c
 -- the command reads, and keeps its lock inside a transaction
 abbrev pub reads : State → ℕ → Transaction → Lock → Reply → Outcome
 reads s c Outside lock r = answers s c r Outside []
-reads s c (Active sync changes) lock r = answers s c r (Active sync changes) (kept lock (holder s.holders c).locks)
+reads s c (Active sync changes) lock r = answers s c r (Active sync changes) (with_lock lock (holder_at s.holders c).locks)
 reads s c Abandoned lock r = Never
 
 -- the command makes the change: outside a transaction in the maps, inside one in its list
 abbrev pub makes : State → ℕ → Transaction → Lock → Change (List ℕ) → Outcome
-makes s c Outside lock x = answers (record s { maps = changed s.maps x }) c reply.Done Outside []
-makes s c (Active sync changes) lock x = answers s c reply.Done (Active sync (changes ++ x ∷ [])) (kept lock (holder s.holders c).locks)
+makes s c Outside lock x = answers (record s { maps = table_after s.maps x }) c reply.Done Outside []
+makes s c (Active sync changes) lock x = answers s c reply.Done (Active sync (changes ++ x ∷ [])) (with_lock lock (holder_at s.holders c).locks)
 makes s c Abandoned lock x = Never
 
 abbrev pub value_or_none : Option (List ℕ) → Reply
@@ -100,13 +100,13 @@ abbrev pub unhindered : State → ℕ → Transaction → Command → Outcome
 unhindered s c Abandoned command.Commit = answers s c reply.Abandoned Outside []
 unhindered s c Abandoned other = answers s c reply.Abandoned Abandoned []
 unhindered s c Outside (command.Begin sync) = answers s c reply.Done (Active sync []) []
-unhindered s c (Active sync changes) command.Commit = answers (record s { maps = changed_by s.maps changes }) c reply.Done Outside []
-unhindered s c tx command.Snapshot = answers (record s { last = s.last + 1 }) c (reply.Snapshot (s.last + 1)) tx (holder s.holders c).locks
-unhindered s c tx (command.Get id key) = reads s c tx (OnKey id key) (value_or_none (at (seen s c) (id, key)))
+unhindered s c (Active sync changes) command.Commit = answers (record s { maps = table_after_all s.maps changes }) c reply.Done Outside []
+unhindered s c tx command.Snapshot = answers (record s { last = s.last + 1 }) c (reply.Snapshot (s.last + 1)) tx (holder_at s.holders c).locks
+unhindered s c tx (command.Get id key) = reads s c tx (OnKey id key) (value_or_none (at (maps_seen s c) (id, key)))
 unhindered s c tx (command.Put id key value) = makes s c tx (OnKey id key) (Set id key value)
 unhindered s c tx (command.Delete id) = makes s c tx (OnMap id) (Clear id)
 unhindered s c tx (command.Remove id key) =
-    if is_some (at (seen s c) (id, key)) then makes s c tx (OnKey id key) (Take id key) else reads s c tx (OnKey id key) reply.Absent
+    if is_some (at (maps_seen s c) (id, key)) then makes s c tx (OnKey id key) (Take id key) else reads s c tx (OnKey id key) reply.Absent
 unhindered s c Outside command.Commit = Never
 unhindered s c (Active sync changes) (command.Begin again) = Never
 

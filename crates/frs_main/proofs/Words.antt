@@ -9,7 +9,7 @@ use Rattle.frs_text.specs.declared.plan.Job.TheVariants.{Run, Plain}
 use Rattle.frs_text.specs.declared.plan.Plan.{Plan}
 use Rattle.frs_text.specs.declared.plan.PlainPlan.{PlainPlan}
 use Rattle.frs_text.specs.declared.plan.PlainPlan.TheVariants.{Recover, Compact, Stat}
-use Rattle.frs_text.specs.CommandLine.{number_up_to, demo_end, demo_with, demo_count, demo_of, run_of, plain, job_named, job_of, on_store, plan_of}
+use Rattle.frs_text.specs.CommandLine.{number_up_to, demo_end, demo_with, demo_count, demo_of, run_of, plain_plan, job_named, job_of, on_store, plan_of}
 use Rattle.frs_engine.specs.Runs.{HasWork}
 
 abbrev pub JobHasWork : Job → Type 0
@@ -60,7 +60,7 @@ run : (ws : List (List ℕ)) → ReadHasWork (run_of ws)
 run [] = tt
 run (w ∷ ws) = omega arith
 
-no_work : (plan : PlainPlan) (ws : List (List ℕ)) → ReadHasWork (plain plan ws)
+no_work : (plan : PlainPlan) (ws : List (List ℕ)) → ReadHasWork (plain_plan plan ws)
 no_work plan [] = tt
 no_work plan (w ∷ ws) = tt
 

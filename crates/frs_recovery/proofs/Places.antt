@@ -9,14 +9,14 @@ use Rattle.frs_types.specs.declared.record.Record.{Record}
 use Rattle.frs_disk.specs.Disk.{Image, bytes_at}
 use Rattle.frs_segment.specs.declared.layout.ChunkPlace.{ChunkPlace}
 use Rattle.frs_segment.specs.declared.fault.ScanFault.{ScanFault}
-use Rattle.frs_segment.specs.declared.layout.Segment.{Segment as Described}
-use Rattle.frs_segment.specs.Segments.{Segment, IsSegment, body, chunk_bytes, chunks_bytes, segment_spelling, is_chunk, are_chunks, end_of}
-use Rattle.frs_segment.specs.Scanning.{place_of, places_from, described, IsChunk}
+use Rattle.frs_segment.specs.declared.layout.Segment.{Segment}
+use Rattle.frs_segment.specs.Segments.{WholeSegment, IsSegment, body, chunk_bytes, chunks_bytes, segment_spelling, is_chunk, are_chunks, end_of}
+use Rattle.frs_segment.specs.Scanning.{chunk_place, places_from, places_of_segment, IsChunk}
 use Rattle.frs_recovery.specs.declared.backward.Backward.{Backward}
 use Rattle.frs_recovery.specs.declared.fault.RecoverFault.{RecoverFault}
 use Rattle.frs_recovery.specs.declared.fault.RecoverFault.TheVariants.{BadHeader, BadChunk, Gap, NumberLimit, Disk, Memory}
-use Rattle.frs_recovery.specs.Faults.{Gives}
-use Rattle.frs_recovery.specs.Looking.{IsMeant, IsOutside, ReadsSegment}
+use Rattle.frs_recovery.specs.Faults.{GivesRecovered}
+use Rattle.frs_recovery.specs.Looking.{IsMeant, IsOutsideFault, ReadsSegment}
 use Rattle.frs_recovery.specs.Offered.{HasRead}
 
 abbrev flat : List (List Record) → List Record
@@ -96,7 +96,7 @@ behind : (n : ℕ) (chunks : List (List Record)) (gate : ℕ) (rest : List ℕ) 
 behind n [] gate rest = (gate, rest, refl)
 behind n (c ∷ chunks) gate rest = (1, drop 1 (chunks_bytes n (c ∷ chunks) ++ gate ∷ rest), refl)
 
-first_stands : (offset first : ℕ) (c : List Record) (chunks : List (List Record)) (text : List ℕ) (gate : ℕ) (rest : List ℕ) → text ≡ chunks_bytes first (c ∷ chunks) ++ gate ∷ rest → IsTrue (is_chunk first c) → first + length c ≤ 2 ^ 62 → IsChunk (place_of offset first c) text c
+first_stands : (offset first : ℕ) (c : List Record) (chunks : List (List Record)) (text : List ℕ) (gate : ℕ) (rest : List ℕ) → text ≡ chunks_bytes first (c ∷ chunks) ++ gate ∷ rest → IsTrue (is_chunk first c) → first + length c ≤ 2 ^ 62 → IsChunk (chunk_place offset first c) text c
 first_stands offset first c chunks text gate rest e is within =
     let b = behind (first + length c) chunks gate rest in
     record {
@@ -126,7 +126,7 @@ stands_at offset first [] bytes gate rest e is within [] place places parts = ab
 stands_at offset first [] bytes gate rest e is within (q ∷ older) place places parts = absurd cc
 stands_at offset first (c ∷ chunks) bytes gate rest e is within [] place places parts =
     let p = and_parts (is_chunk first c) (are_chunks (first + length c) chunks) is in
-    let same : place_of offset first c ≡ place = cc in
+    let same : chunk_place offset first c ≡ place = cc in
     (c, subst (λ (q : ChunkPlace). IsChunk q (drop q.offset bytes) c) same (first_stands offset first c chunks (drop offset bytes) gate rest e p.0 (omega (arith, within, length-append c (flat chunks)))))
 stands_at offset first (c ∷ chunks) bytes gate rest e is within (q ∷ older) place places parts =
     let p = and_parts (is_chunk first c) (are_chunks (first + length c) chunks) is in
@@ -167,7 +167,7 @@ take_places tells bytes offset first (c ∷ chunks) (d ∷ read) z =
       many = length-append d (flat read) ∙ ap (λ (m : ℕ). m + length (flat read)) n ∙ ap (λ (m : ℕ). length c + m) rest.many ∙ sym (length-append c (flat chunks));
       places = ap (λ (m : ℕ). record { offset = offset; first = first; count = m; body = length (body d) } ∷ places_from (offset + 17 + length (body d)) (first + m) read) n
           ∙ ap (λ (m : ℕ). record { offset = offset; first = first; count = length c; body = m } ∷ places_from (offset + 17 + m) (first + length c) read) k
-          ∙ ap (λ (x : List ChunkPlace). place_of offset first c ∷ x) rest.places;
+          ∙ ap (λ (x : List ChunkPlace). chunk_place offset first c ∷ x) rest.places;
       long = length-append (chunk_bytes first d) (chunks_bytes (first + length d) read)
           ∙ ap (λ (m : ℕ). length (chunk_bytes first d) + length (chunks_bytes (first + m) read)) n
           ∙ ap (λ (m : ℕ). length (chunk_bytes first d) + m) rest.long
@@ -176,10 +176,10 @@ take_places tells bytes offset first (c ∷ chunks) (d ∷ read) z =
       are = and_from (is_chunk first d) (are_chunks (first + length d) read) is.chunk (ap (λ (m : ℕ). are_chunks (first + m) read) n ∙ rest.are);
     }
 
-abbrev with_chunks : Segment → List (List Record) → Segment
+abbrev with_chunks : WholeSegment → List (List Record) → WholeSegment
 with_chunks s read = record { number = s.number; first = s.first; chunks = read }
 
-same_described : (s : Segment) (read : List (List Record)) → TakePlaces 22 s.first s.chunks read → described (with_chunks s read) ≡ described s
+same_described : (s : WholeSegment) (read : List (List Record)) → TakePlaces 22 s.first s.chunks read → places_of_segment (with_chunks s read) ≡ places_of_segment s
 same_described s read t =
     let long : length (segment_spelling (with_chunks s read)) ≡ length (segment_spelling s) = omega (arith, t.long) in
     ap (λ (m : ℕ). record { number = s.number; first = s.first; «end» = s.first + m; length = length (segment_spelling (with_chunks s read)) + 1; chunks = places_from 22 s.first read }) t.many
@@ -187,7 +187,7 @@ same_described s read t =
     ∙ ap (λ (x : List ChunkPlace). record { number = s.number; first = s.first; «end» = end_of s; length = length (segment_spelling s) + 1; chunks = x }) t.places
 
 -- a file that is that segment
-meant_again : (s : Segment) (read : List (List Record)) → IsMeant s → TakePlaces 22 s.first s.chunks read → IsMeant (with_chunks s read)
+meant_again : (s : WholeSegment) (read : List (List Record)) → IsMeant s → TakePlaces 22 s.first s.chunks read → IsMeant (with_chunks s read)
 meant_again s read is t = (
   (s.number, segment_spelling (with_chunks s read) ++ 0 ∷ []),
   record {
@@ -203,7 +203,7 @@ meant_again s read is t = (
 )
 
 -- the chunks that were read make such a segment, and the one that the file is where the disk tells it
-all_read : (tells : Bool) (bytes : List ℕ) (s : Segment) (old now : Backward) → IsMeant s → (IsTrue tells → IsSegment (s.number, bytes) s) → IsReadBack tells bytes (end_of s) (places_from 22 s.first s.chunks) [] old now
+all_read : (tells : Bool) (bytes : List ℕ) (s : WholeSegment) (old now : Backward) → IsMeant s → (IsTrue tells → IsSegment (s.number, bytes) s) → IsReadBack tells bytes (end_of s) (places_from 22 s.first s.chunks) [] old now
     → (rs : List Record) → HasRead old (end_of s) rs → ReadsSegment tells s rs now
 all_read tells bytes s old now meant is back rs had =
     let each : AllZip (IsReadAt tells bytes) (places_from 22 s.first s.chunks) back.chunks = subst (λ (x : List ChunkPlace). AllZip (IsReadAt tells bytes) x back.chunks) (sym back.parts) back.each in
@@ -224,8 +224,8 @@ all_read tells bytes s old now meant is back rs had =
 
 -- ---- by the description that a scan has given
 
-pub chained : (found : Described) → ((s : Segment) × IsMeant s × (found ≡ described s)) → IsChained found.«end» found.chunks
-chained found was = let (s, is, e) = was in subst (λ (d : Described). IsChained d.«end» d.chunks) (sym e) (chained_from 22 s.first (end_of s) s.chunks refl)
+pub chained : (found : Segment) → ((s : WholeSegment) × IsMeant s × (found ≡ places_of_segment s)) → IsChained found.«end» found.chunks
+chained found was = let (s, is, e) = was in subst (λ (d : Segment). IsChained d.«end» d.chunks) (sym e) (chained_from 22 s.first (end_of s) s.chunks refl)
 
 -- the last of the places that are left
 pub last_apart : (left : List ChunkPlace) (d : ChunkPlace) → 1 ≤ length left → left ≡ take (length left - 1) left ++ get_or left (length left - 1) d ∷ []
@@ -242,17 +242,17 @@ read_at tells tells_now files files_now number place rs told seen meant same = r
 }
 
 -- where the file is this segment, a chunk stands at the last place that is left
-pub chunk_there : (tells tells_now : Bool) (files files_now : Image) (found : Described) (left older : List ChunkPlace) (place : ChunkPlace) (old now : Backward) → tells_now ≡ tells → files_now ≡ files
+pub chunk_there : (tells tells_now : Bool) (files files_now : Image) (found : Segment) (left older : List ChunkPlace) (place : ChunkPlace) (old now : Backward) → tells_now ≡ tells → files_now ≡ files
     → IsReadBack tells (bytes_at files found.number) found.«end» found.chunks left old now → left ≡ older ++ place ∷ [] → {X : Type 0} (view : X → List Record) (fault : RecoverFault)
-    → (IsTrue tells_now → (rs : List Record) → IsChunk place (drop place.offset (bytes_at files_now found.number)) rs → Gives (λ (x : X). view x ≡ rs) (Err fault))
-    → IsTrue tells → (s : Segment) → IsSegment (found.number, bytes_at files found.number) s → found ≡ described s → IsOutside fault
+    → (IsTrue tells_now → (rs : List Record) → IsChunk place (drop place.offset (bytes_at files_now found.number)) rs → GivesRecovered (λ (x : X). view x ≡ rs) (Err fault))
+    → IsTrue tells → (s : WholeSegment) → IsSegment (found.number, bytes_at files found.number) s → found ≡ places_of_segment s → IsOutsideFault fault
 chunk_there tells tells_now files files_now found left older place old now told seen back e {X} view fault only tells_it s is was =
-    let parts : places_from 22 s.first s.chunks ≡ older ++ place ∷ back.places = ap (λ (d : Described). d.chunks) (sym was) ∙ back.parts ∙ ap (λ (x : List ChunkPlace). x ++ back.places) e ∙ append_assoc older (place ∷ []) back.places in
+    let parts : places_from 22 s.first s.chunks ≡ older ++ place ∷ back.places = ap (λ (d : Segment). d.chunks) (sym was) ∙ back.parts ∙ ap (λ (x : List ChunkPlace). x ++ back.places) e ∙ append_assoc older (place ∷ []) back.places in
     let below = leb-true (end_of s) (2 ^ 62) (and_parts (leb (end_of s) (2 ^ 62)) (ltb s.number (2 ^ 62)) is.within).0 in
     let (rs, there) = stands_at 22 s.first s.chunks (bytes_at files found.number) is.gate is.rest (ap (drop 22) is.bytes) is.chunks below older place back.places parts in
     outside fault rs (only (subst IsTrue (sym told) tells_it) rs (subst (λ (x : Image). IsChunk place (drop place.offset (bytes_at x found.number)) rs) (sym seen) there))
   where
-    outside : (fault : RecoverFault) (rs : List Record) → Gives (λ (x : X). view x ≡ rs) (Err fault) → IsOutside fault
+    outside : (fault : RecoverFault) (rs : List Record) → GivesRecovered (λ (x : X). view x ≡ rs) (Err fault) → IsOutsideFault fault
     outside Disk rs gives = tt
     outside Memory rs gives = tt
     outside (BadHeader number offset) rs gives = gives
@@ -261,8 +261,8 @@ chunk_there tells tells_now files files_now found left older place old now told 
     outside (NumberLimit lsn) rs gives = gives
 
 -- once no chunk is left, the segment was read
-pub segment_read : (tells : Bool) (bytes : List ℕ) (found : Described) (left : List ChunkPlace) (old now : Backward) → length left < 1 → IsReadBack tells bytes found.«end» found.chunks left old now
-    → (s : Segment) (rs : List Record) → IsMeant s → found ≡ described s → (IsTrue tells → IsSegment (found.number, bytes) s) → HasRead old (end_of s) rs → ReadsSegment tells s rs now
+pub segment_read : (tells : Bool) (bytes : List ℕ) (found : Segment) (left : List ChunkPlace) (old now : Backward) → length left < 1 → IsReadBack tells bytes found.«end» found.chunks left old now
+    → (s : WholeSegment) (rs : List Record) → IsMeant s → found ≡ places_of_segment s → (IsTrue tells → IsSegment (found.number, bytes) s) → HasRead old (end_of s) rs → ReadsSegment tells s rs now
 segment_read tells bytes found (p ∷ left) old now none back s rs meant e is had = absurd (omega (arith, none))
 segment_read tells bytes found [] old now none back s rs meant e is had =
-    all_read tells bytes s old now meant (λ told. subst (λ (d : Described). IsSegment (d.number, bytes) s) e (is told)) (subst (λ (d : Described). IsReadBack tells bytes d.«end» d.chunks [] old now) e back) rs had
+    all_read tells bytes s old now meant (λ told. subst (λ (d : Segment). IsSegment (d.number, bytes) s) e (is told)) (subst (λ (d : Segment). IsReadBack tells bytes d.«end» d.chunks [] old now) e back) rs had

@@ -7,7 +7,7 @@ use Rattle.frs_types.specs.declared.record.Record.{Record}
 use Rattle.frs_types.specs.Records.{Log}
 use Rattle.frs_types.specs.Survivors.{survivors, lowest_of}
 use Rattle.frs_frame.specs.Spelling.{spelling}
-use Rattle.frs_segment.specs.Segments.{File, Segment, IsSegment, SpellsBy, segment_spelling}
+use Rattle.frs_segment.specs.Segments.{File, WholeSegment, IsSegment, SpellsBy, segment_spelling}
 use Rattle.frs_recovery.specs.declared.fault.RecoverFault.TheVariants.{Gap}
 use Rattle.frs_recovery.specs.Wrong.{IsWrongFirst}
 
@@ -17,7 +17,7 @@ mark lowest = record { tx = 0; lowest = lowest; named = 0; action = Mark }
 abbrev put : ℕ → List ℕ → List ℕ → Record
 put lowest key value = record { tx = 0; lowest = lowest; named = 0; action = Put (codes "m") key value }
 
-abbrev session : ℕ → ℕ → Record → Record → Record → Segment
+abbrev session : ℕ → ℕ → Record → Record → Record → WholeSegment
 session number first opening change closing = record { number = number; first = first; chunks = (opening ∷ []) ∷ (change ∷ []) ∷ (closing ∷ []) ∷ [] }
 
 -- ---- one segment, of which each byte is given
@@ -35,7 +35,7 @@ whole_bytes =
     0x00 ∷ 0x03 ∷ 0x07 ∷ 0x00 ∷ 0x00 ∷ 0x00 ∷ 0x00 ∷ 0x00 ∷ 0x00 ∷ 0x00 ∷ 0x00 ∷ 0x00 ∷ 0x00 ∷ 0x00 ∷ 0x00 ∷ 0x00 ∷
     0x00 ∷ 0x00 ∷ 0x02 ∷ 0x00 ∷ 0x00 ∷ 0x00 ∷ 0x00 ∷ 0x00 ∷ 0x00 ∷ 0x00 ∷ 0x00 ∷ 0x00 ∷ []
 
-abbrev whole : Segment
+abbrev whole : WholeSegment
 whole = session 1 1 (mark 1) (put 2 (codes "k") (codes "v")) (mark 2)
 
 whole_is : IsSegment (1, whole_bytes) whole
@@ -57,13 +57,13 @@ whole_lowest = refl
 
 -- ---- three segments, of which the second or the first two are gone
 
-abbrev first : Segment
+abbrev first : WholeSegment
 first = session 1 1 (mark 1) (put 2 (codes "a") (codes "1")) (mark 2)
 
-abbrev third : Segment
+abbrev third : WholeSegment
 third = session 3 7 (mark 2) (put 2 (codes "c") (codes "3")) (mark 2)
 
-abbrev file_of : Segment → File
+abbrev file_of : WholeSegment → File
 file_of s = (s.number, segment_spelling s ++ 0 ∷ [])
 
 first_is : IsSegment (file_of first) first

@@ -7,10 +7,10 @@ use Rattle.std.specs.FinMap.{get, get-entries, entries, entries_sorted, keys}
 use Rattle.std.specs.FinMap.Entries.{find, is_sorted}
 use Rattle.frs_disk.specs.Disk.{Image, bytes_at}
 use Rattle.std.proofs.lemmas.Bool.{not-true, not-false}
-use Rattle.frs_segment.specs.Segments.{File, Segment, all_records, are_enough}
+use Rattle.frs_segment.specs.Segments.{File, WholeSegment, all_records, are_enough}
 use Rattle.frs_recovery.specs.declared.looked.Looked.{Looked}
 use Rattle.frs_recovery.specs.declared.fault.RecoverFault.{RecoverFault}
-use Rattle.frs_recovery.specs.Faults.{IsCauseIn, CountsFault, HasDiskCause}
+use Rattle.frs_recovery.specs.Faults.{IsCauseOnDisk, CountsFault, HasRecoverCause}
 use Rattle.frs_recovery.specs.Looking.{IsLooked, LooksAt, IsWrongFile}
 use Rattle.frs_recovery.specs.Down.{LooksDown}
 use Rattle.frs_recovery.specs.Wrong.{goes_further, gap_below}
@@ -67,28 +67,28 @@ turned numbers k number (lt, is) =
 -- the file with the greatest number that is left was looked at
 pub turn : (tells later : Bool) (m now : Image) (numbers : List ℕ) (k number : ℕ) (old new : Looked) → GoesDown tells (entries m) (files_left numbers m k) old → (IsTrue tells → numbers ≡ keys m)
     → (k < length numbers) × (number ≡ get_or numbers (length numbers - 1 - k) number) → later ≡ tells → now ≡ m
-    → ((segments : List Segment) → IsLooked old segments → LooksAt later (number, bytes_at now number) segments old new) → Stepped tells (entries m) (files_left numbers m (k + 1)) new
+    → ((segments : List WholeSegment) → IsLooked old segments → LooksAt later (number, bytes_at now number) segments old new) → Stepped tells (entries m) (files_left numbers m (k + 1)) new
 turn tells later m now numbers k number old new g all (lt, is) told seen looks =
     step tells (entries m) (files_left numbers m k) (files_left numbers m (k + 1)) (number, bytes_at m number) old new g (λ t. (next_left m numbers k number (all t) lt is).last)
     (subst (λ (b : Bool). LooksAt b (number, bytes_at m number) g.segments old new) told (subst (λ (i : Image). LooksAt later (number, bytes_at i number) g.segments old new) seen (looks g.segments g.looked)))
 
 -- it isn't enough yet
 pub turn_on : (tells : Bool) (m : Image) (numbers : List ℕ) (k n : ℕ) (new : Looked) (enough : Bool) → Stepped tells (entries m) (files_left numbers m (k + 1)) new
-    → ((segments : List Segment) → IsLooked new segments → enough ≡ not (goes_further segments (all_records segments))) → enough ≡ false → n ≡ k + 1 → GoesDown tells (entries m) (files_left numbers m n) new
+    → ((segments : List WholeSegment) → IsLooked new segments → enough ≡ not (goes_further segments (all_records segments))) → enough ≡ false → n ≡ k + 1 → GoesDown tells (entries m) (files_left numbers m n) new
 turn_on tells m numbers k n new enough s says isnt many =
     subst (λ (i : ℕ). GoesDown tells (entries m) (files_left numbers m i) new) (sym many)
     (goes_on tells (entries m) (files_left numbers m (k + 1)) new s (not-false (goes_further s.segments (all_records s.segments)) (sym (says s.segments s.looked) ∙ isnt)))
 
 -- it is
 pub turn_ends : (tells : Bool) (m : Image) (numbers : List ℕ) (k : ℕ) (new : Looked) (enough : Bool) → Stepped tells (entries m) (files_left numbers m (k + 1)) new
-    → ((segments : List Segment) → IsLooked new segments → enough ≡ not (goes_further segments (all_records segments))) → enough ≡ true → LooksDown tells (entries m) new
+    → ((segments : List WholeSegment) → IsLooked new segments → enough ≡ not (goes_further segments (all_records segments))) → enough ≡ true → LooksDown tells (entries m) new
 turn_ends tells m numbers k new enough s says is =
     is_down tells (entries m) (files_left numbers m (k + 1)) new s (not-true (goes_further s.segments (all_records s.segments)) (sym (says s.segments s.looked) ∙ is))
 
 -- it is refused
 pub turn_fails : (tells later : Bool) (m now : Image) (numbers : List ℕ) (k number : ℕ) (old : Looked) (fault : RecoverFault) → GoesDown tells (entries m) (files_left numbers m k) old → (IsTrue tells → numbers ≡ keys m)
     → (k < length numbers) × (number ≡ get_or numbers (length numbers - 1 - k) number) → later ≡ tells → now ≡ m
-    → ((segments : List Segment) → IsLooked old segments → IsTrue later → IsWrongFile (number, bytes_at now number) segments fault) → (t : IsTrue tells) → IsCauseIn (entries m) fault
+    → ((segments : List WholeSegment) → IsLooked old segments → IsTrue later → IsWrongFile (number, bytes_at now number) segments fault) → (t : IsTrue tells) → IsCauseOnDisk (entries m) fault
 turn_fails tells later m now numbers k number old fault g all at told seen wrong t =
     let (within, here) = at in
     wrong_file tells (entries m) (files_left numbers m k) (files_left numbers m (k + 1)) (number, bytes_at m number) old fault g t (rising m) (next_left m numbers k number (all t) within here).last
@@ -96,11 +96,11 @@ turn_fails tells later m now numbers k number old fault g all at told seen wrong
 
 -- no file is left
 pub end_down : (tells : Bool) (m : Image) (numbers : List ℕ) (k : ℕ) (l : Looked) → (g : GoesDown tells (entries m) (files_left numbers m k) l) → k ≡ length numbers
-    → ((segments : List Segment) → IsLooked l segments → IsTrue (goes_further segments (all_records segments)) → IsTrue (are_enough [] segments (all_records segments))) → LooksDown tells (entries m) l
+    → ((segments : List WholeSegment) → IsLooked l segments → IsTrue (goes_further segments (all_records segments)) → IsTrue (are_enough [] segments (all_records segments))) → LooksDown tells (entries m) l
 end_down tells m numbers k l g all enough = is_down_at_end tells (entries m) (files_left numbers m k) l g (none_left numbers m k all) (enough g.segments g.looked g.further)
 
 pub end_fails : (tells : Bool) (m : Image) (numbers : List ℕ) (k : ℕ) (l : Looked) (fault : RecoverFault) → (g : GoesDown tells (entries m) (files_left numbers m k) l) → k ≡ length numbers
-    → ((segments : List Segment) → IsLooked l segments → IsTrue (goes_further segments (all_records segments)) → IsTrue (not (are_enough [] segments (all_records segments))) × (fault ≡ gap_below segments 0)) → IsTrue tells → IsCauseIn (entries m) fault
+    → ((segments : List WholeSegment) → IsLooked l segments → IsTrue (goes_further segments (all_records segments)) → IsTrue (not (are_enough [] segments (all_records segments))) × (fault ≡ gap_below segments 0)) → IsTrue tells → IsCauseOnDisk (entries m) fault
 end_fails tells m numbers k l fault g all wrong t = wrong_at_end tells (entries m) (files_left numbers m k) l fault g t (rising m) (none_left numbers m k all) (wrong g.segments g.looked g.further)
 
 -- ---- what a call that was refused answers
@@ -108,10 +108,10 @@ end_fails tells m numbers k l fault g all wrong t = wrong_at_end tells (entries 
 pub none_down : {X : Type 0} (P : X → Type 0) (result : Result X RecoverFault) (fault : RecoverFault) → result ≡ Err fault → IfOk result P
 none_down P result fault is = subst (λ (r : Result _ RecoverFault). IfOk r P) (sym is) tt
 
-pub still_cause : {X : Type 0} (start before now : ℕ) (result : Result X RecoverFault) (fault : RecoverFault) → result ≡ Err fault → before ≡ start → CountsFault before now fault → HasDiskCause start now result
+pub still_cause : {X : Type 0} (start before now : ℕ) (result : Result X RecoverFault) (fault : RecoverFault) → result ≡ Err fault → before ≡ start → CountsFault before now fault → HasRecoverCause start now result
 still_cause start before now result fault is same counts =
-    subst (λ (r : Result _ RecoverFault). HasDiskCause start now r) (sym is) (subst (λ (n : ℕ). CountsFault n now fault) same counts)
+    subst (λ (r : Result _ RecoverFault). HasRecoverCause start now r) (sym is) (subst (λ (n : ℕ). CountsFault n now fault) same counts)
 
-pub gap_cause : {X : Type 0} (start before : ℕ) (result : Result X RecoverFault) (fault : RecoverFault) (segments : List Segment) → result ≡ Err fault → before ≡ start → fault ≡ gap_below segments 0 → HasDiskCause start before result
+pub gap_cause : {X : Type 0} (start before : ℕ) (result : Result X RecoverFault) (fault : RecoverFault) (segments : List WholeSegment) → result ≡ Err fault → before ≡ start → fault ≡ gap_below segments 0 → HasRecoverCause start before result
 gap_cause start before result fault segments is same gap =
-    subst (λ (r : Result _ RecoverFault). HasDiskCause start before r) (sym is) (subst (λ (f : RecoverFault). CountsFault start before f) (sym gap) same)
+    subst (λ (r : Result _ RecoverFault). HasRecoverCause start before r) (sym is) (subst (λ (f : RecoverFault). CountsFault start before f) (sym gap) same)

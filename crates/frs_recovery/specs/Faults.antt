@@ -3,14 +3,14 @@ use Rattle.std.specs.Prelude.{◌≡◌, ℕ, ◌≤◌, Result, Ok, Err}
 use Rattle.frs_disk.specs.declared.disk.Fault.{Fault}
 use Rattle.frs_disk.specs.declared.disk.Fault.TheVariants as disk
 use Rattle.frs_disk.specs.Disk.{Rose}
-use Rattle.frs_segment.specs.Segments.{Image}
+use Rattle.frs_segment.specs.Segments.{FileList}
 use Rattle.frs_recovery.specs.declared.fault.RecoverFault.{RecoverFault}
 use Rattle.frs_recovery.specs.declared.fault.RecoverFault.TheVariants.{Disk, Memory}
 use Rattle.frs_recovery.specs.Wrong.{IsWrongFirst}
 
-abbrev pub of_disk : Fault → RecoverFault
-of_disk disk.Failed = Disk
-of_disk disk.Memory = Memory
+abbrev pub recover_fault_of : Fault → RecoverFault
+recover_fault_of disk.Failed = Disk
+recover_fault_of disk.Memory = Memory
 
 -- The fault is about the files. The two others are the disk's and memory's.
 abbrev pub IsOfFiles : RecoverFault → Type 0
@@ -19,17 +19,17 @@ IsOfFiles Memory = ⊥
 IsOfFiles fault = Unit {0}
 
 -- Why a recovery was refused: this is wrong first with the files. The disk and memory are free.
-abbrev pub IsCauseIn : Image → RecoverFault → Type 0
-IsCauseIn image Disk = Unit {0}
-IsCauseIn image Memory = Unit {0}
-IsCauseIn image fault = IsWrongFirst image fault
+abbrev pub IsCauseOnDisk : FileList → RecoverFault → Type 0
+IsCauseOnDisk image Disk = Unit {0}
+IsCauseOnDisk image Memory = Unit {0}
+IsCauseOnDisk image fault = IsWrongFirst image fault
 
 -- The answer is an Ok with P, unless the disk or memory has failed.
-abbrev pub Gives : {X : Type 0} → (X → Type 0) → Result X RecoverFault → Type 0
-Gives P (Ok x) = P x
-Gives P (Err Disk) = Unit {0}
-Gives P (Err Memory) = Unit {0}
-Gives P (Err fault) = ⊥
+abbrev pub GivesRecovered : {X : Type 0} → (X → Type 0) → Result X RecoverFault → Type 0
+GivesRecovered P (Ok x) = P x
+GivesRecovered P (Err Disk) = Unit {0}
+GivesRecovered P (Err Memory) = Unit {0}
+GivesRecovered P (Err fault) = ⊥
 
 -- The answer is this refusal, unless the disk or memory has failed.
 abbrev pub Refuses : {X : Type 0} → RecoverFault → Result X RecoverFault → Type 0
@@ -44,6 +44,6 @@ CountsFault before now Disk = (before ≤ now) × Rose before now
 CountsFault before now fault = now ≡ before
 
 -- `Disk` is told only where the count of faults has risen, and with any other answer it is as it was
-abbrev pub HasDiskCause : {X : Type 0} → ℕ → ℕ → Result X RecoverFault → Type 0
-HasDiskCause before now (Ok x) = now ≡ before
-HasDiskCause before now (Err fault) = CountsFault before now fault
+abbrev pub HasRecoverCause : {X : Type 0} → ℕ → ℕ → Result X RecoverFault → Type 0
+HasRecoverCause before now (Ok x) = now ≡ before
+HasRecoverCause before now (Err fault) = CountsFault before now fault

@@ -3,14 +3,14 @@ use Rattle.std.specs.Prelude.{◌≡◌, ℕ, ◌-◌, List, drop, None}
 use Rattle.std.specs.List.{last_or}
 use Rattle.std.specs.Prelude.{Option, option_map}
 use Rattle.frs_types.specs.declared.record.Record.{Record}
-use Rattle.frs_types.specs.Records.{Numbered, numbered_from, named_lowest}
+use Rattle.frs_types.specs.Records.{Numbered, numbered_records_from, named_lowest}
 use Rattle.frs_filters.specs.Chain.{HasSeen}
 use Rattle.frs_filters.specs.Begins.{HasNoted}
 use Rattle.frs_recovery.specs.declared.backward.Backward.{Backward}
 
 -- of the newest records of a log, the first of which has the LSN first, those from the named lowest on
 abbrev pub offered_of : ℕ → List Record → List Numbered
-offered_of first rs = drop (named_lowest rs - first) (numbered_from first rs)
+offered_of first rs = drop (named_lowest rs - first) (numbered_records_from first rs)
 
 -- the lowest that the newest of these records names, if there is one
 abbrev pub lowest_named : List Record → Option ℕ

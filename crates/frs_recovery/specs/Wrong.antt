@@ -8,7 +8,7 @@ use Rattle.frs_types.specs.Records.{named_lowest}
 use Rattle.frs_disk.specs.Disk.{IsNumber}
 use Rattle.frs_segment.specs.declared.fault.ScanFault.{ScanFault}
 use Rattle.frs_segment.specs.declared.fault.ScanFault.TheVariants as scan
-use Rattle.frs_segment.specs.Segments.{File, Image, Segment, IsSegment, open_files, all_records, end_of, first_of, follow_from, are_enough}
+use Rattle.frs_segment.specs.Segments.{File, FileList, WholeSegment, IsSegment, open_files, all_records, end_of, first_of, follow_from, are_enough}
 use Rattle.frs_segment.specs.Scanning.{IsRefused}
 use Rattle.frs_recovery.specs.declared.fault.RecoverFault.{RecoverFault}
 use Rattle.frs_recovery.specs.declared.fault.RecoverFault.TheVariants.{BadHeader, BadChunk, Gap, NumberLimit}
@@ -21,14 +21,14 @@ IsStored file = IsNumber file.0 × All (λ b. b < 256) file.1
 
 -- The log goes further back than these segments: none begins at or below the lowest that the newest record names.
 -- Without a record each open file is looked at.
-abbrev pub goes_further : List Segment → List Record → Bool
+abbrev pub goes_further : List WholeSegment → List Record → Bool
 goes_further segments [] = true
-goes_further segments (r ∷ rs) = list_all (λ (s : Segment). nat_lt (named_lowest (r ∷ rs)) s.first) segments
+goes_further segments (r ∷ rs) = list_all (λ (s : WholeSegment). nat_lt (named_lowest (r ∷ rs)) s.first) segments
 
 -- The greatest open files are these segments, which follow each other, and the log goes further back. The other open
 -- files are the older ones.
-pub record HoldsDownTo (image older : Image) (segments : List Segment) : Type 0 where
-  pub looked : Image
+pub record HoldsDownTo (image older : FileList) (segments : List WholeSegment) : Type 0 where
+  pub looked : FileList
   pub files : older ++ looked ≡ open_files image
   pub each : AllZip IsSegment looked segments
   pub follow : IsTrue (follow_from (first_of segments) segments)
@@ -46,17 +46,17 @@ refusal_of number scan.Disk = None
 refusal_of number scan.Memory = None
 
 -- those above begin where the segment ends; the newest one may end anywhere
-abbrev pub ends_below : Segment → List Segment → Bool
+abbrev pub ends_below : WholeSegment → List WholeSegment → Bool
 ends_below s [] = true
 ends_below s (t ∷ segments) = t.first == end_of s
 
 -- the record before these segments is missed; the last one found below has this LSN, or is 0
-abbrev pub gap_below : List Segment → ℕ → RecoverFault
+abbrev pub gap_below : List WholeSegment → ℕ → RecoverFault
 gap_below segments found = Gap (first_of segments - 1) found
 
 -- the greatest of the older files is no segment
-pub record IsNoSegment (older : Image) (fault : RecoverFault) : Type 0 where
-  pub before : Image
+pub record IsNoSegment (older : FileList) (fault : RecoverFault) : Type 0 where
+  pub before : FileList
   pub file : File
   pub greatest : older ≡ before ++ file ∷ []
   pub why : ScanFault
@@ -64,28 +64,28 @@ pub record IsNoSegment (older : Image) (fault : RecoverFault) : Type 0 where
   pub told : refusal_of file.0 why ≡ Some fault
 
 -- the greatest of the older files is a segment that doesn't end where those above it begin
-pub record IsGapBetween (older : Image) (segments : List Segment) (fault : RecoverFault) : Type 0 where
-  pub before : Image
+pub record IsGapBetween (older : FileList) (segments : List WholeSegment) (fault : RecoverFault) : Type 0 where
+  pub before : FileList
   pub file : File
   pub greatest : older ≡ before ++ file ∷ []
-  pub next : Segment
+  pub next : WholeSegment
   pub is : IsSegment file next
   pub apart : IsTrue (not (ends_below next segments))
   pub told : fault ≡ gap_below segments (end_of next - 1)
 
 -- no file is left, and the log doesn't begin here
-pub record IsGapAtEnd (older : Image) (segments : List Segment) (fault : RecoverFault) : Type 0 where
+pub record IsGapAtEnd (older : FileList) (segments : List WholeSegment) (fault : RecoverFault) : Type 0 where
   pub none : older ≡ []
   pub missed : IsTrue (not (are_enough [] segments (all_records segments)))
   pub told : fault ≡ gap_below segments 0
 
-abbrev pub IsWrongBelow : Image → List Segment → RecoverFault → Type 0
+abbrev pub IsWrongBelow : FileList → List WholeSegment → RecoverFault → Type 0
 IsWrongBelow older segments fault = IsNoSegment older fault ⊎ IsGapBetween older segments fault ⊎ IsGapAtEnd older segments fault
 
 -- The image spells no log within the limits, and this is wrong first.
-pub record IsWrongFirst (image : Image) (fault : RecoverFault) : Type 0 where
+pub record IsWrongFirst (image : FileList) (fault : RecoverFault) : Type 0 where
   pub rising : IsTrue (is_sorted nat_cmp image)
-  pub older : Image
-  pub segments : List Segment
+  pub older : FileList
+  pub segments : List WholeSegment
   pub holds : HoldsDownTo image older segments
   pub wrong : IsWrongBelow older segments fault

@@ -1,8 +1,8 @@
 // The records of a store, from the newest to the oldest, through the filters.
 ghost use Rattle.std.specs.Prelude.{◌≡◌, ◌+◌, ◌<◌, ◌≤◌, ◌^◌, ◌++◌, ℕ, List, [], ◌∷◌, length, map, IsTrue, IfOk, OnOk};
 ghost use Rattle.frs_types.specs.declared.record.Record.{Record as Said};
-ghost use Rattle.frs_types.specs.Records.{allowed, allowed_from, named_lowest, numbered};
-ghost use Rattle.frs_types.specs.Survivors.{committed_of, survivors_of, open_begins, least};
+ghost use Rattle.frs_types.specs.Records.{is_allowed, are_allowed_from, named_lowest, numbered_records};
+ghost use Rattle.frs_types.specs.Survivors.{committed_records, survivors_of, open_begins, least};
 ghost use Rattle.frs_recovery.specs.Answers.{lsns_of};
 ghost use Rattle.frs_recovery.specs.Offered.{offered_of, lowest_named, HasRead};
 
@@ -40,7 +40,7 @@ impl Backward {
 
     // Reads the record that stands before all those that were read.
     fn read(&mut self, lsn: u64, r: Record) -> Result<(), NoMemory>
-        requires { IsTrue (allowed lsn r) }
+        requires { IsTrue (is_allowed lsn r) }
         ensures { (rs : List Said) → HasRead self.old (lsn + 1) rs → OnOk result (HasRead self.new lsn (r ∷ rs)) }
     {
         let lowest = self.named.unwrap_or(r.lowest);
@@ -54,7 +54,7 @@ impl Backward {
 
     // Reads the records of a chunk, which stand before all those that were read, from the last to the first.
     pub(crate) fn read_all(&mut self, first: u64, records: Vec<Record>) -> Result<(), NoMemory>
-        requires allowed { IsTrue (allowed_from first records.items) }
+        requires allowed { IsTrue (are_allowed_from first records.items) }
         requires within { first + length records.items ≤ 2 ^ 62 }
         ensures { (rs : List Said) → HasRead self.old (first + length records.items) rs → OnOk result (HasRead self.new first (records.items ++ rs)) }
     {
@@ -68,9 +68,9 @@ impl Backward {
     // What the records that were read leave, the next of which gets this LSN: the entries, and the lowest LSN that is
     // still needed.
     pub(crate) fn left(self, next: u64) -> (Vec<Entry>, u64)
-        ensures entries { (first : ℕ) (rs : List Said) → HasRead self first rs → result.0.items ≡ survivors_of (committed_of (offered_of first rs)) }
+        ensures entries { (first : ℕ) (rs : List Said) → HasRead self first rs → result.0.items ≡ survivors_of (committed_records (offered_of first rs)) }
         ensures lowest { (first : ℕ) (rs : List Said) → HasRead self first rs
-            → result.1 ≡ least next (lsns_of (survivors_of (committed_of (offered_of first rs))) ++ open_begins (offered_of first rs)) }
+            → result.1 ≡ least next (lsns_of (survivors_of (committed_records (offered_of first rs))) ++ open_begins (offered_of first rs)) }
     {
         let Backward { chain, begins, .. } = self;
         let entries = chain.entries();

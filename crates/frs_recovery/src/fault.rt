@@ -1,7 +1,7 @@
 //! Why a store couldn't be read back.
 ghost use Rattle.std.specs.Prelude.{◌≡◌};
 ghost use Rattle.frs_recovery.specs.declared.fault.RecoverFault.TheVariants.{Memory};
-ghost use Rattle.frs_recovery.specs.Faults.{of_disk};
+ghost use Rattle.frs_recovery.specs.Faults.{recover_fault_of};
 
 use frs_disk::Fault;
 use frs_types::NoMemory;
@@ -76,7 +76,7 @@ impl fmt::Display for RecoverFault {
 impl std::error::Error for RecoverFault {}
 
 impl From<Fault> for RecoverFault {
-    ghost from_gives = { λ fault e. e ≡ of_disk fault };
+    ghost from_gives = { λ fault e. e ≡ recover_fault_of fault };
 
     fn from(fault: Fault) -> Self {
         match fault {

@@ -3,10 +3,10 @@ ghost use Rattle.std.specs.Prelude.{◌≡◌, ◌+◌, ◌-◌, ◌<◌, ◌≤
 ghost use Rattle.std.specs.FinMap.{get, entries};
 ghost use Rattle.frs_types.specs.declared.record.Record.{Record as Said};
 ghost use Rattle.frs_disk.specs.Disk.{bytes_at, IsNumber, Keeps, Passes, Within};
-ghost use Rattle.frs_segment.specs.Segments.{Segment as Meant, IsSegment, end_of, first_of, all_records, are_enough};
-ghost use Rattle.frs_segment.specs.Scanning.{described, IsChunk};
-ghost use Rattle.frs_recovery.specs.Faults.{HasDiskCause, IsOfFiles, Gives};
-ghost use Rattle.frs_recovery.specs.Looking.{IsLooked, LooksAt, IsWrongFile, IsFileFault, TellsSegment, ReadsSegment, IsMeant, IsOutside, chunk_fault};
+ghost use Rattle.frs_segment.specs.Segments.{WholeSegment, IsSegment, end_of, first_of, all_records, are_enough};
+ghost use Rattle.frs_segment.specs.Scanning.{places_of_segment, IsChunk};
+ghost use Rattle.frs_recovery.specs.Faults.{HasRecoverCause, IsOfFiles, GivesRecovered};
+ghost use Rattle.frs_recovery.specs.Looking.{IsLooked, LooksAt, IsWrongFile, IsFileFault, TellsSegment, ReadsSegment, IsMeant, IsOutsideFault, chunk_fault};
 ghost use Rattle.frs_recovery.specs.Offered.{HasRead};
 ghost use Rattle.frs_recovery.specs.Wrong.{goes_further, ends_below, gap_below};
 
@@ -45,7 +45,7 @@ impl Looked {
 
     // Whether the log begins in the oldest segment that was looked at.
     pub(crate) fn is_enough(&self) -> bool
-        ensures { (segments : List Meant) → IsLooked self.now segments → result ≡ not (goes_further segments (all_records segments)) }
+        ensures { (segments : List WholeSegment) → IsLooked self.now segments → result ≡ not (goes_further segments (all_records segments)) }
     {
         match (self.segments.last(), self.records.named()) {
             (Some(oldest), Some(lowest)) => oldest.first <= lowest,
@@ -55,9 +55,9 @@ impl Looked {
 
     // Where no file is left and the log isn't enough: whether it begins here.
     pub(crate) fn at_end(&self) -> Result<(), RecoverFault>
-        ensures whole { (segments : List Meant) → IsLooked self.now segments → IsTrue (goes_further segments (all_records segments))
+        ensures whole { (segments : List WholeSegment) → IsLooked self.now segments → IsTrue (goes_further segments (all_records segments))
             → OnOk result (IsTrue (are_enough [] segments (all_records segments))) }
-        ensures gap { (segments : List Meant) → IsLooked self.now segments → IsTrue (goes_further segments (all_records segments))
+        ensures gap { (segments : List WholeSegment) → IsLooked self.now segments → IsTrue (goes_further segments (all_records segments))
             → IfErr result (λ fault. IsTrue (not (are_enough [] segments (all_records segments))) × (fault ≡ gap_below segments 0)) }
     {
         match self.segments.last() {
@@ -71,7 +71,7 @@ impl Looked {
 
     // Whether a segment ends where those above it begin.
     fn meets(&self, segment: &Segment) -> Result<(), RecoverFault>
-        ensures told { (segments : List Meant) (s : Meant) → IsLooked self.now segments → IsMeant s → segment.now ≡ described s
+        ensures told { (segments : List WholeSegment) (s : WholeSegment) → IsLooked self.now segments → IsMeant s → segment.now ≡ places_of_segment s
             → result ≡ (if ends_below s segments then Ok tt else Err (gap_below segments (end_of s - 1))) }
         ensures of_files { IfErr result IsOfFiles }
     {
@@ -106,15 +106,15 @@ pub(crate) fn look_at<D: Disk>(
 ) -> Result<(), RecoverFault>
     requires in_range { IsNumber number }
     requires there { IsTrue (D.tells disk.old) → IsSome (get (D.reads disk.old) number) }
-    ensures looks { (segments : List Meant) → IsLooked looked.old segments → OnOk result (LooksAt (D.tells disk.old) (number, bytes_at (D.reads disk.old) number) segments looked.old looked.new) }
-    ensures why { (segments : List Meant) → IsLooked looked.old segments → IsTrue (D.tells disk.old) → IfErr result (IsWrongFile (number, bytes_at (D.reads disk.old) number) segments) }
+    ensures looks { (segments : List WholeSegment) → IsLooked looked.old segments → OnOk result (LooksAt (D.tells disk.old) (number, bytes_at (D.reads disk.old) number) segments looked.old looked.new) }
+    ensures why { (segments : List WholeSegment) → IsLooked looked.old segments → IsTrue (D.tells disk.old) → IfErr result (IsWrongFile (number, bytes_at (D.reads disk.old) number) segments) }
     ensures told { D.tells disk.new ≡ D.tells disk.old }
     ensures seen { D.reads disk.new ≡ D.reads disk.old }
     ensures pending { (n : ℕ) → D.removing disk.new n → D.removing disk.old n }
     ensures crash { Keeps (D.may_leave disk.old) (D.may_leave disk.new) }
     ensures time { Passes D.moment D.left_since disk.old disk.new }
     ensures within { Within D.moment D.left_since disk.old disk.new (D.may_leave disk.old) }
-    ensures cause { HasDiskCause (D.faults disk.old) (D.faults disk.new) result }
+    ensures cause { HasRecoverCause (D.faults disk.old) (D.faults disk.new) result }
 {
     let Some(segment) = segment_of(alloc, disk, number)? else {
         looked.half.push(number)?;
@@ -142,7 +142,7 @@ fn segment_of<D: Disk>(
     ensures crash { Keeps (D.may_leave disk.old) (D.may_leave disk.new) }
     ensures time { Passes D.moment D.left_since disk.old disk.new }
     ensures within { Within D.moment D.left_since disk.old disk.new (D.may_leave disk.old) }
-    ensures cause { HasDiskCause (D.faults disk.old) (D.faults disk.new) result }
+    ensures cause { HasRecoverCause (D.faults disk.old) (D.faults disk.new) result }
 {
     match scan(alloc, disk, number) {
         Ok(segment) => Ok(Some(segment)),
@@ -168,20 +168,20 @@ fn read_segment<D: Disk>(
     segment: &Segment,
     records: &mut Backward,
 ) -> Result<(), RecoverFault>
-    requires meant { (s : Meant) × IsMeant s × (segment.now ≡ described s) }
+    requires meant { (s : WholeSegment) × IsMeant s × (segment.now ≡ places_of_segment s) }
     requires there { IsTrue (D.tells disk.old) → IsSome (get (D.reads disk.old) segment.now.number) }
-    ensures read { (s : Meant) (rs : List Said) → IsMeant s → segment.now ≡ described s
+    ensures read { (s : WholeSegment) (rs : List Said) → IsMeant s → segment.now ≡ places_of_segment s
         → (IsTrue (D.tells disk.old) → IsSegment (segment.now.number, bytes_at (D.reads disk.old) segment.now.number) s)
         → HasRead records.old (end_of s) rs → OnOk result (ReadsSegment (D.tells disk.old) s rs records.new) }
-    ensures only { IsTrue (D.tells disk.old) → (s : Meant) → IsSegment (segment.now.number, bytes_at (D.reads disk.old) segment.now.number) s
-        → segment.now ≡ described s → IfErr result IsOutside }
+    ensures only { IsTrue (D.tells disk.old) → (s : WholeSegment) → IsSegment (segment.now.number, bytes_at (D.reads disk.old) segment.now.number) s
+        → segment.now ≡ places_of_segment s → IfErr result IsOutsideFault }
     ensures told { D.tells disk.new ≡ D.tells disk.old }
     ensures seen { D.reads disk.new ≡ D.reads disk.old }
     ensures pending { (n : ℕ) → D.removing disk.new n → D.removing disk.old n }
     ensures crash { Keeps (D.may_leave disk.old) (D.may_leave disk.new) }
     ensures time { Passes D.moment D.left_since disk.old disk.new }
     ensures within { Within D.moment D.left_since disk.old disk.new (D.may_leave disk.old) }
-    ensures cause { HasDiskCause (D.faults disk.old) (D.faults disk.new) result }
+    ensures cause { HasRecoverCause (D.faults disk.old) (D.faults disk.new) result }
 {
     let mut left = segment.chunks.places();
     while let [older @ .., place] = left {
@@ -202,14 +202,14 @@ fn chunk_of<D: Disk>(
     requires there { IsTrue (D.tells disk.old) → IsSome (get (D.reads disk.old) number) }
     ensures meant { IfOk result (λ records. (text : List ℕ) × IsChunk place.now text records.items) }
     ensures only { IsTrue (D.tells disk.old) → (rs : List Said) → IsChunk place.now (drop place.now.offset (bytes_at (D.reads disk.old) number)) rs
-        → Gives (λ records. records.items ≡ rs) result }
+        → GivesRecovered (λ records. records.items ≡ rs) result }
     ensures told { D.tells disk.new ≡ D.tells disk.old }
     ensures seen { D.reads disk.new ≡ D.reads disk.old }
     ensures pending { (n : ℕ) → D.removing disk.new n → D.removing disk.old n }
     ensures crash { Keeps (D.may_leave disk.old) (D.may_leave disk.new) }
     ensures time { Passes D.moment D.left_since disk.old disk.new }
     ensures within { Within D.moment D.left_since disk.old disk.new (D.may_leave disk.old) }
-    ensures cause { HasDiskCause (D.faults disk.old) (D.faults disk.new) result }
+    ensures cause { HasRecoverCause (D.faults disk.old) (D.faults disk.new) result }
 {
     match read_chunk(alloc, disk, number, place) {
         Ok(records) => Ok(records),

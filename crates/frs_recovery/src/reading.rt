@@ -6,11 +6,11 @@ ghost use Rattle.std.specs.Ordering.{nat_cmp};
 ghost use Rattle.std.specs.List.{last_or};
 ghost use Rattle.frs_types.specs.Records.{Log};
 ghost use Rattle.frs_disk.specs.Disk.{IsNumber, Keeps, Passes, Within};
-ghost use Rattle.frs_segment.specs.Segments.{Image, Segment as Meant, Spells, SpellsBy};
+ghost use Rattle.frs_segment.specs.Segments.{FileList, WholeSegment, Spells, SpellsBy};
 ghost use Rattle.frs_segment.specs.Stores.{numbers_of};
 ghost use Rattle.frs_recovery.specs.declared.fault.RecoverFault.{RecoverFault as Refusal};
 ghost use Rattle.frs_recovery.specs.Answers.{IsRecovered, IsInRange};
-ghost use Rattle.frs_recovery.specs.Faults.{HasDiskCause, IsCauseIn, Gives, Refuses};
+ghost use Rattle.frs_recovery.specs.Faults.{HasRecoverCause, IsCauseOnDisk, GivesRecovered, Refuses};
 ghost use Rattle.frs_recovery.specs.Down.{LooksDown, end_of_newest, least_number};
 ghost use Rattle.frs_recovery.specs.Wrong.{IsWrongFirst};
 
@@ -38,14 +38,14 @@ use std::alloc::Global;
 pub fn recover<D: Disk>(alloc: Global, disk: &mut D) -> Result<Recovered, RecoverFault>
     // What is read back is what the files spell.
     ensures found { IfOk result (λ r. IsTrue (D.tells disk.old)
-        → (segments : List Meant) × (log : Log) × IsRecovered (entries (D.reads disk.old)) segments log r) }
+        → (segments : List WholeSegment) × (log : Log) × IsRecovered (entries (D.reads disk.old)) segments log r) }
 
     // If the files spell a log, that is read back, unless the disk or memory fails.
-    ensures only { IsTrue (D.tells disk.old) → (segments : List Meant) (log : Log) → SpellsBy (entries (D.reads disk.old)) segments log
-        → Gives (IsRecovered (entries (D.reads disk.old)) segments log) result }
+    ensures only { IsTrue (D.tells disk.old) → (segments : List WholeSegment) (log : Log) → SpellsBy (entries (D.reads disk.old)) segments log
+        → GivesRecovered (IsRecovered (entries (D.reads disk.old)) segments log) result }
 
     // Which fault it is: that which is first.
-    ensures why { IsTrue (D.tells disk.old) → IfErr result (IsCauseIn (entries (D.reads disk.old))) }
+    ensures why { IsTrue (D.tells disk.old) → IfErr result (IsCauseOnDisk (entries (D.reads disk.old))) }
     ensures refused { IsTrue (D.tells disk.old) → (fault : Refusal) → IsWrongFirst (entries (D.reads disk.old)) fault → Refuses fault result }
 
     // What holds also where the disk doesn't tell its files.
@@ -57,7 +57,7 @@ pub fn recover<D: Disk>(alloc: Global, disk: &mut D) -> Result<Recovered, Recove
     ensures crash { Keeps (D.may_leave disk.old) (D.may_leave disk.new) }
     ensures time { Passes D.moment D.left_since disk.old disk.new }
     ensures within { Within D.moment D.left_since disk.old disk.new (D.may_leave disk.old) }
-    ensures cause { HasDiskCause (D.faults disk.old) (D.faults disk.new) result }
+    ensures cause { HasRecoverCause (D.faults disk.old) (D.faults disk.new) result }
 {
     one_answer();
     one_log();
@@ -71,14 +71,14 @@ fn go_down<D: Disk>(alloc: Global, disk: &mut D, numbers: &[u64]) -> Result<Look
     requires in_range { All IsNumber numbers.now }
     requires all { IsTrue (D.tells disk.old) → numbers.now ≡ keys (D.reads disk.old) }
     ensures down { IfOk result (LooksDown (D.tells disk.old) (entries (D.reads disk.old))) }
-    ensures why { IsTrue (D.tells disk.old) → IfErr result (IsCauseIn (entries (D.reads disk.old))) }
+    ensures why { IsTrue (D.tells disk.old) → IfErr result (IsCauseOnDisk (entries (D.reads disk.old))) }
     ensures told { D.tells disk.new ≡ D.tells disk.old }
     ensures seen { D.reads disk.new ≡ D.reads disk.old }
     ensures pending { (n : ℕ) → D.removing disk.new n → D.removing disk.old n }
     ensures crash { Keeps (D.may_leave disk.old) (D.may_leave disk.new) }
     ensures time { Passes D.moment D.left_since disk.old disk.new }
     ensures within { Within D.moment D.left_since disk.old disk.new (D.may_leave disk.old) }
-    ensures cause { HasDiskCause (D.faults disk.old) (D.faults disk.new) result }
+    ensures cause { HasRecoverCause (D.faults disk.old) (D.faults disk.new) result }
 {
     let mut looked = Looked::new(alloc);
     for &number in numbers.iter().rev() {
@@ -94,10 +94,10 @@ fn go_down<D: Disk>(alloc: Global, disk: &mut D, numbers: &[u64]) -> Result<Look
 // What the files that were looked at tell, where these are the numbers of all.
 fn recovered(looked: Looked, numbers: Vec<u64>) -> Recovered
     requires in_range { All IsNumber numbers.items }
-    ensures found { (tells : Bool) (image : Image) → LooksDown tells image looked → IsTrue tells
+    ensures found { (tells : Bool) (image : FileList) → LooksDown tells image looked → IsTrue tells
         → IsTrue (is_sorted nat_cmp image) → numbers.items ≡ numbers_of image
-        → (segments : List Meant) × (log : Log) × IsRecovered image segments log result }
-    ensures in_range { (tells : Bool) (image : Image) → LooksDown tells image looked → IsInRange result }
+        → (segments : List WholeSegment) × (log : Log) × IsRecovered image segments log result }
+    ensures in_range { (tells : Bool) (image : FileList) → LooksDown tells image looked → IsInRange result }
 {
     survivors_in_order();
     let (segments, half, records) = looked.parts();

@@ -8,11 +8,11 @@ use Rattle.std.proofs.lemmas.Grind.{flat_map-append}
 use Rattle.frs_types.specs.declared.record.Action.{Action}
 use Rattle.frs_types.specs.declared.record.Action.TheVariants.{Put, Remove, Delete, Begin, Commit, Compaction, Mark, Abandon}
 use Rattle.frs_types.specs.declared.record.Record.{Record}
-use Rattle.frs_types.specs.Records.{kind_allows, kind_permits, has_words, allowed, allowed_from, well_formed, Fits}
+use Rattle.frs_types.specs.Records.{kind_allows, kind_permits, has_words, is_allowed, are_allowed_from, well_formed, Fits}
 use Rattle.frs_frame.specs.declared.fault.FrameFault.{FrameFault}
 use Rattle.frs_frame.specs.declared.fault.FrameFault.TheVariants as faults
 use Rattle.frs_frame.specs.Spelling.{spelling}
-use Rattle.frs_frame.specs.Decoding.{Fails}
+use Rattle.frs_frame.specs.Decoding.{FailsDecoding}
 use Rattle.frs_frame.proofs.Reading.{one_record, spelling_least}
 use Rattle.frs_segment.specs.declared.layout.ChunkPlace.{ChunkPlace}
 use Rattle.frs_segment.specs.Segments.{body}
@@ -54,7 +54,7 @@ record Standing (n : ℕ) (r : Record) : Type 0 where
   lowest : r.lowest ≤ n
   words : has_words r.action ≡ true
 
-standing : (n : ℕ) (r : Record) → IsTrue (allowed n r) → Standing n r
+standing : (n : ℕ) (r : Record) → IsTrue (is_allowed n r) → Standing n r
 standing n r is =
     let kind = kind_allows n r.action r.tx r.named in
     let w = and_parts (kind && ltb r.named n && ltb 0 r.lowest && leb r.lowest n) (has_words r.action) is in
@@ -64,7 +64,7 @@ standing n r is =
     record { kind = m.0; named = ltb-true r.named n m.1; named_lowest = ltb-true 0 r.lowest k.1; lowest = leb-true r.lowest n l.1; words = w.1 }
 
 -- a record that may stand at an LSN may stand somewhere
-pub permitted : (n : ℕ) (r : Record) → IsTrue (allowed n r) → IsTrue (well_formed r)
+pub permitted : (n : ℕ) (r : Record) → IsTrue (is_allowed n r) → IsTrue (well_formed r)
 permitted n r is =
     let s = standing n r is in
     let kind = kind_permits r.action r.tx r.named in
@@ -72,7 +72,7 @@ permitted n r is =
     (and_from kind (ltb 0 r.lowest) (kind_permitted n r.action r.tx r.named (omega (arith, s.named_lowest, s.lowest)) s.kind) (lt-ltb 0 r.lowest s.named_lowest)) s.words
 
 -- and its numbers fit, where the LSN fits
-pub allowed_fits : (n : ℕ) (r : Record) → n < 2 ^ 64 → IsTrue (allowed n r) → Fits r
+pub allowed_fits : (n : ℕ) (r : Record) → n < 2 ^ 64 → IsTrue (is_allowed n r) → Fits r
 allowed_fits n r lt is =
     let s = standing n r is in
     record {
@@ -83,15 +83,15 @@ allowed_fits n r lt is =
     }
 
 -- a record that was read, and that may not stand there, is the only one at the front
-pub no_other : (text : List ℕ) (lsn : ℕ) (r : Record) (rest : List ℕ) → lsn < 2 ^ 64 → Fits r → text ≡ spelling r ++ rest → allowed lsn r ≡ false → TellsRecord text lsn None
+pub no_other : (text : List ℕ) (lsn : ℕ) (r : Record) (rest : List ℕ) → lsn < 2 ^ 64 → Fits r → text ≡ spelling r ++ rest → is_allowed lsn r ≡ false → TellsRecord text lsn None
 no_other text lsn r rest lt fits spelled not_there q behind is e =
     let one = one_record r q rest behind fits (allowed_fits lsn q lt is) (sym spelled ∙ e) in
-    let there : allowed lsn r ≡ true = ap (allowed lsn) one.0 ∙ is in
+    let there : is_allowed lsn r ≡ true = ap (is_allowed lsn) one.0 ∙ is in
     absurd cc
 
 -- what isn't read is no record, unless memory runs out
 abbrev pub Only : List ℕ → FrameFault → Type 0
-Only text fault = (r : Record) (rest : List ℕ) → Fits r → IsTrue (well_formed r) → text ≡ spelling r ++ rest → Fails fault (Ok (r, length (spelling r)))
+Only text fault = (r : Record) (rest : List ℕ) → Fits r → IsTrue (well_formed r) → text ≡ spelling r ++ rest → FailsDecoding fault (Ok (r, length (spelling r)))
 
 pub none_read : (text : List ℕ) (lsn : ℕ) (fault : FrameFault) → lsn < 2 ^ 64 → (fault ≡ faults.Memory → ⊥) → Only text fault → TellsRecord text lsn None
 none_read text lsn faults.Memory lt other only q behind is e = other refl
@@ -108,17 +108,17 @@ body-append rs qs = flat_map-append spelling rs qs
 pub body_more : (rs : List Record) (r : Record) → body (rs ++ r ∷ []) ≡ body rs ++ spelling r
 body_more rs r = body-append rs (r ∷ []) ∙ ap (λ (x : List ℕ). body rs ++ x) (append-nil (spelling r))
 
-pub allowed_from-append : (n : ℕ) (rs : List Record) (r : Record) → IsTrue (allowed_from n rs) → IsTrue (allowed (n + length rs) r) → IsTrue (allowed_from n (rs ++ r ∷ []))
-allowed_from-append n [] r all is = let e : n + 0 ≡ n = omega arith in and_from (allowed n r) true (ap (λ (k : ℕ). allowed k r) (sym e) ∙ is) refl
+pub allowed_from-append : (n : ℕ) (rs : List Record) (r : Record) → IsTrue (are_allowed_from n rs) → IsTrue (is_allowed (n + length rs) r) → IsTrue (are_allowed_from n (rs ++ r ∷ []))
+allowed_from-append n [] r all is = let e : n + 0 ≡ n = omega arith in and_from (is_allowed n r) true (ap (λ (k : ℕ). is_allowed k r) (sym e) ∙ is) refl
 allowed_from-append n (q ∷ rs) r all is =
-    let parts = and_parts (allowed n q) (allowed_from (n + 1) rs) all in
+    let parts = and_parts (is_allowed n q) (are_allowed_from (n + 1) rs) all in
     let e : n + length (q ∷ rs) ≡ n + 1 + length rs = omega arith in
-    and_from (allowed n q) (allowed_from (n + 1) (rs ++ r ∷ [])) parts.0 (allowed_from-append (n + 1) rs r parts.1 (ap (λ (k : ℕ). allowed k r) (sym e) ∙ is))
+    and_from (is_allowed n q) (are_allowed_from (n + 1) (rs ++ r ∷ [])) parts.0 (allowed_from-append (n + 1) rs r parts.1 (ap (λ (k : ℕ). is_allowed k r) (sym e) ∙ is))
 
-pub all_fit : (n : ℕ) (rs : List Record) → n + length rs ≤ 2 ^ 62 → IsTrue (allowed_from n rs) → AllByRecursion Fits rs
+pub all_fit : (n : ℕ) (rs : List Record) → n + length rs ≤ 2 ^ 62 → IsTrue (are_allowed_from n rs) → AllByRecursion Fits rs
 all_fit n [] le all = tt
 all_fit n (r ∷ rs) le all =
-    let parts = and_parts (allowed n r) (allowed_from (n + 1) rs) all in
+    let parts = and_parts (is_allowed n r) (are_allowed_from (n + 1) rs) all in
     (allowed_fits n r (omega arith) parts.0, all_fit (n + 1) rs (omega arith) parts.1)
 
 -- no record is spelled by no bytes
@@ -151,22 +151,22 @@ one_body (r ∷ rs) (q ∷ qs) f g e =
 pub record Stand (place : ChunkPlace) (text : List ℕ) (rs : List Record) (count : ℕ) (rest : List ℕ) : Type 0 where
   pub spelled : text ≡ body rs ++ rest
   pub count_is : length rs ≡ count
-  pub all : IsTrue (allowed_from place.first rs)
+  pub all : IsTrue (are_allowed_from place.first rs)
 
 pub stand_more : (place : ChunkPlace) (text : List ℕ) (rs : List Record) (count : ℕ) (rest : List ℕ) (r : Record) (len : ℕ) → Stand place text rs count rest → TellsRecord rest (place.first + count) (Some (r, len))
     → Stand place text (rs ++ r ∷ []) (count + 1) (drop len rest)
 stand_more place text rs count rest r len s tells = record {
   spelled = s.spelled ∙ ap (λ (x : List ℕ). body rs ++ x) tells.1 ∙ sym (append_assoc (body rs) (spelling r) (drop len rest)) ∙ ap (λ (x : List ℕ). x ++ drop len rest) (sym (body_more rs r));
   count_is = omega (arith, length-append rs (r ∷ []), s.count_is);
-  all = allowed_from-append place.first rs r s.all (ap (λ (n : ℕ). allowed (place.first + n) r) s.count_is ∙ tells.0);
+  all = allowed_from-append place.first rs r s.all (ap (λ (n : ℕ). is_allowed (place.first + n) r) s.count_is ∙ tells.0);
 }
 
 -- the record behind others may stand behind them
-allowed_at : (n : ℕ) (rs : List Record) (r : Record) (more : List Record) → IsTrue (allowed_from n (rs ++ r ∷ more)) → IsTrue (allowed (n + length rs) r)
-allowed_at n [] r more all = let e : n + 0 ≡ n = omega arith in ap (λ (k : ℕ). allowed k r) e ∙ (and_parts (allowed n r) (allowed_from (n + 1) more) all).0
+allowed_at : (n : ℕ) (rs : List Record) (r : Record) (more : List Record) → IsTrue (are_allowed_from n (rs ++ r ∷ more)) → IsTrue (is_allowed (n + length rs) r)
+allowed_at n [] r more all = let e : n + 0 ≡ n = omega arith in ap (λ (k : ℕ). is_allowed k r) e ∙ (and_parts (is_allowed n r) (are_allowed_from (n + 1) more) all).0
 allowed_at n (q ∷ rs) r more all =
     let e : n + length (q ∷ rs) ≡ n + 1 + length rs = omega arith in
-    ap (λ (k : ℕ). allowed k r) e ∙ allowed_at (n + 1) rs r more (and_parts (allowed n q) (allowed_from (n + 1) (rs ++ r ∷ more)) all).1
+    ap (λ (k : ℕ). is_allowed k r) e ∙ allowed_at (n + 1) rs r more (and_parts (is_allowed n q) (are_allowed_from (n + 1) (rs ++ r ∷ more)) all).1
 
 fill_front : (place : ChunkPlace) (text : List ℕ) (rs : List Record) (count : ℕ) (rest : List ℕ) (qs : List Record) → place.first + place.count ≤ 2 ^ 62 → count ≤ place.count → Stand place text rs count rest → FillBody place text qs
     → (more : List Record) × (qs ≡ rs ++ more) × (rest ≡ body more)
@@ -186,7 +186,7 @@ stops place text rs count rest limit lt s none qs fill =
   where
     next : (more : List Record) → qs ≡ rs ++ more → rest ≡ body more → ⊥
     next [] is behind = omega (arith, ap length is, length-append rs [], s.count_is, fill.count_is)
-    next (r ∷ more) is behind = none r (body more) (ap (λ (k : ℕ). allowed (place.first + k) r) (sym s.count_is) ∙ allowed_at place.first rs r more (subst (λ (x : List Record). IsTrue (allowed_from place.first x)) is fill.allowed)) behind
+    next (r ∷ more) is behind = none r (body more) (ap (λ (k : ℕ). is_allowed (place.first + k) r) (sym s.count_is) ∙ allowed_at place.first rs r more (subst (λ (x : List Record). IsTrue (are_allowed_from place.first x)) is fill.allowed)) behind
 
 -- nor where bytes are left
 pub bytes_left : (place : ChunkPlace) (text : List ℕ) (rs : List Record) (count : ℕ) (rest : List ℕ) → place.first + place.count ≤ 2 ^ 62 → count ≡ place.count → (length rest ≡ 0 → ⊥) → Stand place text rs count rest

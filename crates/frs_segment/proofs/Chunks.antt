@@ -6,12 +6,12 @@ use Rattle.std.proofs.lemmas.Bool.{cases_lt, ltb-false, le-ltb, leb-true, leb-fa
 use Rattle.std.proofs.lemmas.List.{take_at, drop-drop, drop_more, length-append, length-take, length-drop, get_or-drop, get_or-take, get_or_past}
 use Rattle.std.proofs.lemmas.Nat.{be_bytes_4, be_bytes_8, from_be_bytes-to_be_bytes_4, from_be_bytes-to_be_bytes_8}
 use Rattle.frs_types.specs.declared.record.Record.{Record}
-use Rattle.frs_types.specs.Records.{allowed_from}
+use Rattle.frs_types.specs.Records.{are_allowed_from}
 use Rattle.frs_segment.specs.declared.layout.ChunkPlace.{ChunkPlace}
 use Rattle.frs_segment.specs.declared.fault.ScanFault.{ScanFault}
 use Rattle.frs_segment.specs.declared.fault.ScanFault.TheVariants.{HalfMade, BadHeader, BadChunk, NumberLimit, Disk, Memory}
 use Rattle.frs_segment.specs.Segments.{body, chunk_bytes, is_chunk}
-use Rattle.frs_segment.specs.Scanning.{number_at, head_of, place_of, FillBody, IsChunk, RefusesChunk, RefusesRecords, TellsChunk}
+use Rattle.frs_segment.specs.Scanning.{number_at, head_of, chunk_place, FillBody, IsChunk, RefusesChunk, RefusesRecords, TellsChunk}
 use Rattle.frs_segment.proofs.Bodies.{body_least}
 
 -- ---- tests
@@ -150,7 +150,7 @@ chunk_told offset next behind place rs fits e fill =
     let short : place.body ≤ 2 ^ 20 = subst (λ (p : ChunkPlace). p.body ≤ 2 ^ 20) (sym t.place_is) t.short in
     let within : place.first + place.count ≤ 2 ^ 62 = subst (λ (p : ChunkPlace). p.first + p.count ≤ 2 ^ 62) (sym t.place_is) t.within in
     let is : is_chunk place.first rs ≡ true =
-    and_from (leb 1 (length rs) && leb (length rs) 256 && leb (length (body rs)) (2 ^ 20)) (allowed_from place.first rs)
+    and_from (leb 1 (length rs) && leb (length rs) 256 && leb (length (body rs)) (2 ^ 20)) (are_allowed_from place.first rs)
     (and_from (leb 1 (length rs) && leb (length rs) 256) (leb (length (body rs)) (2 ^ 20))
     (and_from (leb 1 (length rs)) (leb (length rs) 256) (le-leb _ _ (omega (arith, fill.count_is))) (le-leb _ _ (omega (arith, fill.count_is))))
     (le-leb _ _ (omega (arith, len)))) fill.allowed in (
@@ -172,18 +172,18 @@ pub record Passes (first : ℕ) (rs : List Record) : Type 0 where
   pub some : 1 ≤ length rs
   pub few : length rs ≤ 256
   pub short : length (body rs) ≤ 2 ^ 20
-  pub all : allowed_from first rs ≡ true
+  pub all : are_allowed_from first rs ≡ true
 
 pub chunk_passes : (first : ℕ) (rs : List Record) → IsTrue (is_chunk first rs) → Passes first rs
 chunk_passes first rs is =
-    let a = and_parts (leb 1 (length rs) && leb (length rs) 256 && leb (length (body rs)) (2 ^ 20)) (allowed_from first rs) is in
+    let a = and_parts (leb 1 (length rs) && leb (length rs) 256 && leb (length (body rs)) (2 ^ 20)) (are_allowed_from first rs) is in
     let b = and_parts (leb 1 (length rs) && leb (length rs) 256) (leb (length (body rs)) (2 ^ 20)) a.0 in
     let c = and_parts (leb 1 (length rs)) (leb (length rs) 256) b.0 in
     record { some = leb-true _ _ c.0; few = leb-true _ _ c.1; short = leb-true _ _ b.1; all = a.1 }
 
 -- a chunk that stands there has this head
 pub chunk_head : (offset first : ℕ) (behind : List ℕ) (rs : List Record) (gate : ℕ) (rest : List ℕ) → 1 ∷ behind ≡ chunk_bytes first rs ++ gate ∷ rest → IsTrue (is_chunk first rs) → first + length rs ≤ 2 ^ 62
-    → (head_of offset first behind ≡ Ok (place_of offset first rs)) × (take (length (body rs)) (drop 16 behind) ≡ body rs)
+    → (head_of offset first behind ≡ Ok (chunk_place offset first rs)) × (take (length (body rs)) (drop 16 behind) ≡ body rs)
 chunk_head offset first behind rs gate rest e is within =
     let p = chunk_passes first rs is in
     let tail : behind ≡ to_be_bytes w32 (length (body rs)) ++ (to_be_bytes w32 (length rs) ++ (to_be_bytes w64 first ++ (body rs ++ gate ∷ rest))) = ap (drop 1) (e ∙ chunk_parts_is first rs (gate ∷ rest)) in
@@ -193,7 +193,7 @@ chunk_head offset first behind rs gate rest e is within =
     let after : drop 16 behind ≡ body rs ++ gate ∷ rest = ap (drop 16) tail in
     let len : length behind ≡ 17 + length (body rs) + length rest = ap length tail ∙ omega (arith, length-append (body rs) (gate ∷ rest)) in
     let least = body_least rs in
-    let t : Told offset first behind (place_of offset first rs) = record {
+    let t : Told offset first behind (chunk_place offset first rs) = record {
       place_is = ap (λ (m : ℕ). record { offset = offset; first = first; count = m; body = length (body rs) }) (sym count) ∙ ap (λ (m : ℕ). record { offset = offset; first = first; count = number_at w32 4 behind; body = m }) (sym n);
       long = omega (arith, n, len);
       some = omega (arith, count, p.some);
@@ -203,7 +203,7 @@ chunk_head offset first behind rs gate rest e is within =
       there = there;
       within = omega (arith, count, within);
     } in
-    (head_again offset first behind (place_of offset first rs) t, ap (take (length (body rs))) after ∙ take_at (body rs) (gate ∷ rest) (length (body rs)) refl)
+    (head_again offset first behind (chunk_place offset first rs) t, ap (take (length (body rs))) after ∙ take_at (body rs) (gate ∷ rest) (length (body rs)) refl)
 
 -- a chunk that stands there isn't refused
 pub not_refused : (offset first : ℕ) (behind : List ℕ) (rs : List Record) (gate : ℕ) (rest : List ℕ) (fault : ScanFault) → 1 ∷ behind ≡ chunk_bytes first rs ++ gate ∷ rest → IsTrue (is_chunk first rs) → first + length rs ≤ 2 ^ 62
@@ -213,8 +213,8 @@ not_refused offset first behind rs gate rest fault e is within refuses =
     elim refuses [
       | inl failed ↦ absurd (cc (head.0, failed))
       | inr (place, told, fault_is, none) ↦
-          let place_is : place_of offset first rs ≡ place = ok_is (place_of offset first rs) place (sym head.0 ∙ told) in
-          let fill : FillBody (place_of offset first rs) (take (length (body rs)) (drop 16 behind)) rs = record { spelled = head.1; count_is = refl; allowed = (chunk_passes first rs is).all } in
+          let place_is : chunk_place offset first rs ≡ place = ok_is (chunk_place offset first rs) place (sym head.0 ∙ told) in
+          let fill : FillBody (chunk_place offset first rs) (take (length (body rs)) (drop 16 behind)) rs = record { spelled = head.1; count_is = refl; allowed = (chunk_passes first rs is).all } in
           none rs (subst (λ (p : ChunkPlace). FillBody p (take p.body (drop 16 behind)) rs) place_is fill)
     ]
 

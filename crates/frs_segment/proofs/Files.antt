@@ -12,12 +12,12 @@ use Rattle.std.proofs.lemmas.Grind.{flat_map-append}
 use Rattle.std.proofs.lemmas.Nat.{from_be_bytes-to_be_bytes_8}
 use Rattle.frs_types.specs.declared.record.Record.{Record}
 use Rattle.frs_segment.specs.declared.layout.ChunkPlace.{ChunkPlace}
-use Rattle.frs_segment.specs.declared.layout.Segment.{Segment as Described}
+use Rattle.frs_segment.specs.declared.layout.Segment.{Segment}
 use Rattle.frs_segment.specs.declared.fault.ScanFault.{ScanFault}
 use Rattle.frs_segment.specs.declared.fault.ScanFault.TheVariants.{HalfMade, BadHeader, BadChunk, NumberLimit, Disk, Memory}
 use Rattle.frs_segment.specs.Front.{header}
-use Rattle.frs_segment.specs.Segments.{File, Segment, body, chunk_bytes, chunks_bytes, segment_spelling, end_of, is_chunk, are_chunks, is_open}
-use Rattle.frs_segment.specs.Scanning.{number_at, header_of, place_of, places_from, RefusesChunk, IsRefused, TellsChunk, TellsFile}
+use Rattle.frs_segment.specs.Segments.{File, WholeSegment, body, chunk_bytes, chunks_bytes, segment_spelling, end_of, is_chunk, are_chunks, is_open_file}
+use Rattle.frs_segment.specs.Scanning.{number_at, header_of, chunk_place, places_from, RefusesChunk, IsRefused, TellsChunk, TellsFile}
 use Rattle.frs_segment.proofs.Chunks.{IsBytes, cut, passed, ok, ok_is, number_back64}
 
 -- ---- the header
@@ -50,7 +50,7 @@ header_told file first e =
     let d = passed _ _ _ first c.1 in
     let f = passed _ _ _ first d.1 in
     let g = passed _ _ _ first f.1 in
-    let opened = and_parts (leb 23 (length file.1)) (eqb (slice_index file.1 0) 1) (not-false (is_open file) a.0) in
+    let opened = and_parts (leb 23 (length file.1)) (eqb (slice_index file.1 0) 1) (not-false (is_open_file file) a.0) in
     let is : lsn ≡ first = ok_is lsn first g.1 in
     record {
       gate = eqb-true (slice_index file.1 0) 1 opened.1;
@@ -68,7 +68,7 @@ unfolding header_of
 header_again file first h =
     let lsn = number_at w64 14 file.1 in
     let letters = slice_range file.1 1 5 in
-    let a : not (is_open file) ≡ false = not_from_true (is_open file) (and_from (leb 23 (length file.1)) (eqb (slice_index file.1 0) 1) (le-leb _ _ h.long) (eq-eqb _ _ h.gate)) in
+    let a : not (is_open_file file) ≡ false = not_from_true (is_open_file file) (and_from (leb 23 (length file.1)) (eqb (slice_index file.1 0) 1) (le-leb _ _ h.long) (eq-eqb _ _ h.gate)) in
     let b : not (bytes_eq letters (codes "FRSS")) ≡ false = not_from_true _ ((bytes_eq-Decides letters (codes "FRSS")).1 h.letters) in
     let c : not (eqb (slice_index file.1 5) 1) ≡ false = not_from_true _ (eq-eqb _ _ h.version) in
     let d : not (eqb (number_at w64 6 file.1) file.0) ≡ false = not_from_true _ (eq-eqb _ _ h.number) in
@@ -125,22 +125,22 @@ pub length-chunk_bytes : (first : ℕ) (rs : List Record) → length (chunk_byte
 length-chunk_bytes first rs = omega arith
 
 pub places_from-append : (offset first : ℕ) (chunks : List (List Record)) (rs : List Record)
-    → places_from offset first (chunks ++ rs ∷ []) ≡ places_from offset first chunks ++ place_of (offset + length (chunks_bytes first chunks)) (first + length (flat chunks)) rs ∷ []
+    → places_from offset first (chunks ++ rs ∷ []) ≡ places_from offset first chunks ++ chunk_place (offset + length (chunks_bytes first chunks)) (first + length (flat chunks)) rs ∷ []
 places_from-append offset first [] rs =
     let o : offset ≡ offset + 0 = omega arith in
     let n : first ≡ first + 0 = omega arith in
-    ap (λ (m : ℕ). place_of m first rs ∷ []) o ∙ ap (λ (m : ℕ). place_of (offset + 0) m rs ∷ []) n
+    ap (λ (m : ℕ). chunk_place m first rs ∷ []) o ∙ ap (λ (m : ℕ). chunk_place (offset + 0) m rs ∷ []) n
 places_from-append offset first (qs ∷ chunks) rs =
     let o : offset + 17 + length (body qs) + length (chunks_bytes (first + length qs) chunks) ≡ offset + length (chunks_bytes first (qs ∷ chunks)) =
     omega (arith, length-append (chunk_bytes first qs) (chunks_bytes (first + length qs) chunks), length-chunk_bytes first qs) in
     let n : first + length qs + length (flat chunks) ≡ first + length (flat (qs ∷ chunks)) = omega (arith, length-append qs (flat chunks)) in
-    ap (λ (x : List ChunkPlace). place_of offset first qs ∷ x) (places_from-append (offset + 17 + length (body qs)) (first + length qs) chunks rs
-    ∙ ap (λ (m : ℕ). places_from (offset + 17 + length (body qs)) (first + length qs) chunks ++ place_of m (first + length qs + length (flat chunks)) rs ∷ []) o
-    ∙ ap (λ (m : ℕ). places_from (offset + 17 + length (body qs)) (first + length qs) chunks ++ place_of (offset + length (chunks_bytes first (qs ∷ chunks))) m rs ∷ []) n)
+    ap (λ (x : List ChunkPlace). chunk_place offset first qs ∷ x) (places_from-append (offset + 17 + length (body qs)) (first + length qs) chunks rs
+    ∙ ap (λ (m : ℕ). places_from (offset + 17 + length (body qs)) (first + length qs) chunks ++ chunk_place m (first + length qs + length (flat chunks)) rs ∷ []) o
+    ∙ ap (λ (m : ℕ). places_from (offset + 17 + length (body qs)) (first + length qs) chunks ++ chunk_place (offset + length (chunks_bytes first (qs ∷ chunks))) m rs ∷ []) n)
 
 -- ---- how far a file was read
 
-abbrev pub meant : File → ℕ → List (List Record) → Segment
+abbrev pub meant : File → ℕ → List (List Record) → WholeSegment
 meant file first chunks = record { number = file.0; first = first; chunks = chunks }
 
 -- These places are those of the chunks that the file has up to the gate at the offset, and the LSN is the next one.
@@ -195,9 +195,9 @@ reach_more file first places offset next place r is told =
     ap (λ (x : List ℕ). (1 ∷ header file.0 first) ++ x) grown ∙ sym (append_assoc (1 ∷ header file.0 first) (chunks_bytes first r.chunks) (chunk_bytes place.first rs)) in
     let new_len : length (segment_spelling (meant file first new_chunks)) ≡ offset + (17 + place.body) = ap length new_spelling ∙ omega (arith, length-append old (chunk_bytes place.first rs), len, r.offset_is) in
     let more_records : length (flat new_chunks) ≡ length (flat r.chunks) + length rs = ap length (flat_map-append (λ (x : List Record). x) r.chunks (rs ∷ [])) ∙ omega (arith, length-append (flat r.chunks) (flat (rs ∷ [])), ap length (append-nil rs)) in
-    let place_is : place_of (22 + length (chunks_bytes first r.chunks)) (first + length (flat r.chunks)) rs ≡ place =
+    let place_is : chunk_place (22 + length (chunks_bytes first r.chunks)) (first + length (flat r.chunks)) rs ≡ place =
     let o : 22 + length (chunks_bytes first r.chunks) ≡ place.offset = omega (arith, told.0, r.offset_is, spelling_len file first r.chunks) in
-    ap (λ (n : ℕ). place_of n (first + length (flat r.chunks)) rs) o ∙ ap (λ (n : ℕ). place_of place.offset n rs) (sym lsn)
+    ap (λ (n : ℕ). chunk_place n (first + length (flat r.chunks)) rs) o ∙ ap (λ (n : ℕ). chunk_place place.offset n rs) (sym lsn)
     ∙ ap (λ (n : ℕ). record { offset = place.offset; first = place.first; count = n; body = length (body rs) }) chunk.count_is
     ∙ ap (λ (n : ℕ). record { offset = place.offset; first = place.first; count = place.count; body = n }) chunk.body_is in
     record {
@@ -214,7 +214,7 @@ reach_more file first places offset next place r is told =
     }
 
 -- the file ends where a gate is closed
-pub reach_end : (file : File) (first : ℕ) (places : List ChunkPlace) (offset next : ℕ) (found : Described) → Reached file first places offset next → (get_or file.1 offset 0 ≡ 1 → ⊥)
+pub reach_end : (file : File) (first : ℕ) (places : List ChunkPlace) (offset next : ℕ) (found : Segment) → Reached file first places offset next → (get_or file.1 offset 0 ≡ 1 → ⊥)
     → found ≡ record { number = file.0; first = first; «end» = next; length = offset + 1; chunks = places } → TellsFile file (Ok found)
 reach_end file first places offset next found r closed is number =
     let s = meant file first r.chunks in

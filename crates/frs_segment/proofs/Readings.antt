@@ -8,18 +8,18 @@ use Rattle.std.proofs.lemmas.List.{take_at, drop-drop, drop_more, length-append}
 use Rattle.frs_types.specs.declared.record.Record.{Record}
 use Rattle.frs_disk.specs.Disk.{IsNumber}
 use Rattle.frs_segment.specs.declared.layout.ChunkPlace.{ChunkPlace}
-use Rattle.frs_segment.specs.declared.layout.Segment.{Segment as Described}
+use Rattle.frs_segment.specs.declared.layout.Segment.{Segment}
 use Rattle.frs_segment.specs.declared.fault.ScanFault.{ScanFault}
 use Rattle.frs_segment.specs.declared.fault.ScanFault.TheVariants.{HalfMade, BadHeader, BadChunk, NumberLimit, Disk, Memory}
-use Rattle.frs_segment.specs.Segments.{File, Segment, IsSegment, body, chunk_bytes, segment_spelling, end_of, is_open}
-use Rattle.frs_segment.specs.Faults.{HasDiskCause, Gives}
-use Rattle.frs_segment.specs.Scanning.{number_at, header_of, head_of, place_of, described, FillBody, IsChunk, RefusesChunk, IsRefused, RefusesRecords, RefusesPlace, TellsFile}
+use Rattle.frs_segment.specs.Segments.{File, WholeSegment, IsSegment, body, chunk_bytes, segment_spelling, end_of, is_open_file}
+use Rattle.frs_segment.specs.Faults.{HasScanCause, GivesScanned}
+use Rattle.frs_segment.specs.Scanning.{number_at, header_of, head_of, chunk_place, places_of_segment, FillBody, IsChunk, RefusesChunk, IsRefused, RefusesRecords, RefusesPlace, TellsFile}
 use Rattle.frs_segment.proofs.Chunks.{ok, IsBytes, IsBytes-drop, chunk_told, chunk_head, chunk_passes}
 use Rattle.frs_segment.proofs.Unique.{one_segment, not_both, one_fault, one_chunk}
 
 -- ---- one chunk
 
-pub place_is : (place : ChunkPlace) (text : List ℕ) (rs : List Record) → IsChunk place text rs → place_of place.offset place.first rs ≡ place
+pub place_is : (place : ChunkPlace) (text : List ℕ) (rs : List Record) → IsChunk place text rs → chunk_place place.offset place.first rs ≡ place
 place_is place text rs is =
     ap (λ (n : ℕ). record { offset = place.offset; first = place.first; count = n; body = length (body rs) }) is.count_is
     ∙ ap (λ (n : ℕ). record { offset = place.offset; first = place.first; count = place.count; body = n }) is.body_is
@@ -95,7 +95,7 @@ records_refused place text (NumberLimit lsn) why = why
 records_refused place text Disk why = why
 records_refused place text Memory why = tt
 
-pub chunk_read : (place : ChunkPlace) (text : List ℕ) (rs : List Record) (r : Result Records ScanFault) → IfOk r (λ records. IsChunk place text records.items) → IfErr r (RefusesPlace place text) → IsChunk place text rs → Gives (λ records. records.items) r (Ok rs)
+pub chunk_read : (place : ChunkPlace) (text : List ℕ) (rs : List Record) (r : Result Records ScanFault) → IfOk r (λ records. IsChunk place text records.items) → IfErr r (RefusesPlace place text) → IsChunk place text rs → GivesScanned (λ records. records.items) r (Ok rs)
 chunk_read place text rs (Ok v) found why is = ap (λ (x : List Record). Ok x) (one_at place text rs v.items is found)
 chunk_read place text rs (Err HalfMade) found why is = absurd why
 chunk_read place text rs (Err (BadHeader at)) found why is = absurd why
@@ -106,13 +106,13 @@ chunk_read place text rs (Err Memory) found why is = tt
 
 -- ---- a whole file
 
-pub segment_read : (file : File) (r : Result Described ScanFault) (s : Segment) → TellsFile file r → IsSegment file s → Gives (λ found. found) r (Ok (described s))
+pub segment_read : (file : File) (r : Result Segment ScanFault) (s : WholeSegment) → TellsFile file r → IsSegment file s → GivesScanned (λ found. found) r (Ok (places_of_segment s))
 segment_read file (Ok found) s tells is =
     let below = ltb-true s.number (2 ^ 62) (and_parts (leb (end_of s) (2 ^ 62)) (ltb s.number (2 ^ 62)) is.within).1 in
     let starts = and_parts (leb 1 s.number && leb 1 s.first) (ltb s.first (2 ^ 62)) is.starts in
     let some = leb-true 1 s.number (and_parts (leb 1 s.number) (leb 1 s.first) starts.0).0 in
     let (t, it, e) = tells (omega (arith, some, is.number), omega (arith, below, is.number)) in
-    ap (λ (x : Segment). Ok (described x)) (one_segment file s t is it) ∙ ap (λ (x : Described). Ok x) (sym e)
+    ap (λ (x : WholeSegment). Ok (places_of_segment x)) (one_segment file s t is it) ∙ ap (λ (x : Segment). Ok x) (sym e)
 segment_read file (Err HalfMade) s tells is = absurd (not_both file s HalfMade is tells)
 segment_read file (Err (BadHeader at)) s tells is = absurd (not_both file s (BadHeader at) is tells)
 segment_read file (Err (BadChunk at)) s tells is = absurd (not_both file s (BadChunk at) is tells)
@@ -120,7 +120,7 @@ segment_read file (Err (NumberLimit lsn)) s tells is = absurd (not_both file s (
 segment_read file (Err Disk) s tells is = tt
 segment_read file (Err Memory) s tells is = tt
 
-pub refusal_read : (file : File) (r : Result Described ScanFault) (fault : ScanFault) → IsNumber file.0 → TellsFile file r → IsRefused file fault → Gives (λ found. found) r (Err fault)
+pub refusal_read : (file : File) (r : Result Segment ScanFault) (fault : ScanFault) → IsNumber file.0 → TellsFile file r → IsRefused file fault → GivesScanned (λ found. found) r (Err fault)
 refusal_read file (Ok found) fault below tells refused = let (t, it, e) = tells below in absurd (not_both file t fault it refused)
 refusal_read file (Err HalfMade) fault below tells refused = ap (λ (f : ScanFault). Err f) (one_fault file fault HalfMade refused tells)
 refusal_read file (Err (BadHeader at)) fault below tells refused = ap (λ (f : ScanFault). Err f) (one_fault file fault (BadHeader at) refused tells)
@@ -165,13 +165,13 @@ open_next : {A : Type 0} (b : Bool) (fault f : ScanFault) (x : Result A ScanFaul
 open_next true fault f x is e = e
 open_next false fault f x is e = absurd cc
 
-header_of_open : (file : File) → is_open file ≡ true → HeaderTells is_of_open file
+header_of_open : (file : File) → is_open_file file ≡ true → HeaderTells is_of_open file
 unfolding header_of
 header_of_open file is f e =
     let lsn = number_at w64 14 file.1 in
     told_by is_of_open _ (BadHeader 1) _ refl (told_by is_of_open _ (BadHeader 5) _ refl (told_by is_of_open _ (BadHeader 6) _ refl
     (told_by is_of_open _ (BadHeader 14) _ refl (told_by is_of_open _ (NumberLimit lsn) (Ok lsn) refl (not_told is_of_open lsn))))) f
-    (open_next (is_open file) HalfMade f _ is e)
+    (open_next (is_open_file file) HalfMade f _ is e)
 
 head_of_open : (offset next : ℕ) (behind : List ℕ) (f : ScanFault) → head_of offset next behind ≡ Err f → is_of_open f ≡ true
 unfolding head_of
@@ -191,17 +191,17 @@ chunk_of_open offset next behind f (inl failed) = head_of_open offset next behin
 chunk_of_open offset next behind f (inr records) = subst (λ (g : ScanFault). is_of_open g ≡ true) (sym records.2) refl
 
 -- a half-made file isn't open, and a file that isn't open is half-made
-pub half_is_shut : (file : File) → IsRefused file HalfMade → IsTrue (not (is_open file))
-half_is_shut file refused = by (is_open file) refl
+pub half_is_shut : (file : File) → IsRefused file HalfMade → IsTrue (not (is_open_file file))
+half_is_shut file refused = by (is_open_file file) refl
   where
-    by : (b : Bool) → is_open file ≡ b → IsTrue (not (is_open file))
+    by : (b : Bool) → is_open_file file ≡ b → IsTrue (not (is_open_file file))
     by false e = ap not e
     by true e = elim refused [
       | inl failed ↦ let no = header_of_open file e HalfMade failed in absurd cc
       | inr r ↦ let no = chunk_of_open (length (segment_spelling r.before)) (end_of r.before) r.behind HalfMade r.chunk in absurd cc
     ]
 
-pub shut_is_half : (file : File) → IsTrue (not (is_open file)) → IsRefused file HalfMade
+pub shut_is_half : (file : File) → IsTrue (not (is_open_file file)) → IsRefused file HalfMade
 unfolding header_of
 shut_is_half file shut = inl (rw shut refl)
 
@@ -216,7 +216,7 @@ file_blames file refused = let no = file_of_bytes file Disk refl refused in cc
 pub memory_blames : (file : File) → IsRefused file Memory → ⊥
 memory_blames file refused = let no = file_of_bytes file Memory refl refused in cc
 
-pub file_cause : (file : File) (before now : ℕ) (r : Result Described ScanFault) → now ≡ before → TellsFile file r → HasDiskCause before now r
+pub file_cause : (file : File) (before now : ℕ) (r : Result Segment ScanFault) → now ≡ before → TellsFile file r → HasScanCause before now r
 file_cause file before now (Ok found) e tells = e
 file_cause file before now (Err HalfMade) e tells = e
 file_cause file before now (Err (BadHeader at)) e tells = e
@@ -226,6 +226,6 @@ file_cause file before now (Err Disk) e tells = absurd (file_blames file tells)
 file_cause file before now (Err Memory) e tells = e
 
 -- what is read is a segment of some bytes
-pub meant_read : (number : ℕ) (bytes : List ℕ) (result : Result Described ScanFault) → TellsFile (number, bytes) result → IfOk result (λ found. IsNumber number → (text : List ℕ) × (s : Segment) × IsSegment (number, text) s × (found ≡ described s))
+pub meant_read : (number : ℕ) (bytes : List ℕ) (result : Result Segment ScanFault) → TellsFile (number, bytes) result → IfOk result (λ found. IsNumber number → (text : List ℕ) × (s : WholeSegment) × IsSegment (number, text) s × (found ≡ places_of_segment s))
 meant_read number bytes (Ok found) tells = λ below. let (s, is, e) = tells below in (bytes, s, is, e)
 meant_read number bytes (Err fault) tells = tt

@@ -4,14 +4,14 @@ use Rattle.std.specs.Prelude.{All}
 use Rattle.std.proofs.lemmas.Bool.{cases_eq, cases_lt, cases_Bool}
 use Rattle.std.proofs.lemmas.List.{get_or-take, get_or_past, length-take}
 use Rattle.frs_types.specs.declared.record.Record.{Record}
-use Rattle.frs_types.specs.Records.{allowed}
+use Rattle.frs_types.specs.Records.{is_allowed}
 use Rattle.frs_disk.specs.Disk.{IsNumber}
-use Rattle.frs_frame.specs.Decoding.{decoded}
+use Rattle.frs_frame.specs.Decoding.{decoding_of}
 use Rattle.frs_frame.proofs.Reading.{decoded_takes, decoded_again}
 use Rattle.frs_segment.specs.declared.layout.ChunkPlace.{ChunkPlace}
 use Rattle.frs_segment.specs.declared.fault.ScanFault.{ScanFault}
 use Rattle.frs_segment.specs.declared.fault.ScanFault.TheVariants.{BadChunk}
-use Rattle.frs_segment.specs.Segments.{File, Segment, IsSegment}
+use Rattle.frs_segment.specs.Segments.{File, WholeSegment, IsSegment}
 use Rattle.frs_segment.specs.Scanning.{header_of, head_of, FillBody, RefusesChunk, IsRefused, TellsChunk, TellsRecord}
 use Rattle.frs_segment.proofs.Bodies.{Stand, stand_more, stops, bytes_left, filled, no_other, allowed_fits, permitted}
 use Rattle.frs_segment.proofs.Chunks.{IsBytes, IsBytes-drop, head_told, chunk_told}
@@ -33,10 +33,10 @@ IsBytes-take n text fits i =
 
 record_told : (text : List ℕ) (lsn : ℕ) → lsn < 2 ^ 64 → IsBytes text → (found : Option (Record × ℕ)) × TellsRecord text lsn found
 record_told text lsn lt fits =
-    elim (which (decoded text)) [
+    elim (which (decoding_of text)) [
       | inl (x, e) ↦
           let stands = decoded_takes text x fits e in
-          elim (cases_Bool (allowed lsn x.0)) [
+          elim (cases_Bool (is_allowed lsn x.0)) [
             | inl is ↦ (Some (x.0, x.1), (is, stands.whole, stands.within))
             | inr isnt ↦ (None, no_other text lsn x.0 (drop x.1 text) lt stands.fits stands.whole isnt)
           ]
@@ -90,7 +90,7 @@ chunk_or_refused offset next behind fits =
 -- ---- a file
 
 abbrev SegmentOrRefused : File → Type 0
-SegmentOrRefused file = ((s : Segment) × IsSegment file s) ⊎ ((fault : ScanFault) × IsRefused file fault)
+SegmentOrRefused file = ((s : WholeSegment) × IsSegment file s) ⊎ ((fault : ScanFault) × IsRefused file fault)
 
 goes_on : (left : ℕ) (file : File) (first : ℕ) (places : List ChunkPlace) (offset next : ℕ) → IsNumber file.0 → IsBytes file.1 → length file.1 ≤ offset + left → Reached file first places offset next → SegmentOrRefused file
 goes_on zero file first places offset next number fits most r = absurd (omega (arith, most, r.inside))

@@ -10,7 +10,7 @@ use Rattle.std.proofs.lemmas.Nat.{from_be_bytes-to_be_bytes_4}
 use Rattle.frs_types.specs.declared.record.Record.{Record}
 use Rattle.frs_segment.specs.declared.fault.ScanFault.{ScanFault}
 use Rattle.frs_segment.specs.Front.{header}
-use Rattle.frs_segment.specs.Segments.{File, Segment, IsSegment, body, chunk_bytes, chunks_bytes, segment_spelling, end_of, is_chunk, are_chunks}
+use Rattle.frs_segment.specs.Segments.{File, WholeSegment, IsSegment, body, chunk_bytes, chunks_bytes, segment_spelling, end_of, is_chunk, are_chunks}
 use Rattle.frs_segment.specs.Scanning.{number_at, header_of, head_of, RefusesChunk, RefusesBody, IsRefused}
 use Rattle.frs_segment.proofs.Bodies.{all_fit, one_body}
 use Rattle.frs_segment.proofs.Chunks.{ok_is, chunk_passes, not_refused}
@@ -103,10 +103,10 @@ stops_there first offset a b behind gate rest fault l below refuses = at l.more 
 -- ---- files
 
 -- what a segment's file has behind its header
-pub segment_tail : (file : File) (s : Segment) (is : IsSegment file s) → chunks_bytes s.first s.chunks ++ is.gate ∷ is.rest ≡ drop 22 file.1
+pub segment_tail : (file : File) (s : WholeSegment) (is : IsSegment file s) → chunks_bytes s.first s.chunks ++ is.gate ∷ is.rest ≡ drop 22 file.1
 segment_tail file s is = sym (ap (drop 22) is.bytes)
 
-pub segment_header : (file : File) (s : Segment) → IsSegment file s → header_of file ≡ Ok s.first
+pub segment_header : (file : File) (s : WholeSegment) → IsSegment file s → header_of file ≡ Ok s.first
 segment_header file s is =
     let starts = and_parts (leb 1 s.number && leb 1 s.first) (ltb s.first (2 ^ 62)) is.starts in
     let some = (and_parts (leb 1 s.number) (leb 1 s.first) starts.0).1 in
@@ -116,16 +116,16 @@ segment_header file s is =
     let spelled : file.1 ≡ (1 ∷ header file.0 s.first) ++ tail = is.bytes ∙ append_assoc (1 ∷ header s.number s.first) (chunks_bytes s.first s.chunks) (is.gate ∷ is.rest) ∙ ap (λ (n : ℕ). (1 ∷ header n s.first) ++ tail) is.number in
     header_again file s.first (headed_from file s.first tail spelled (omega (arith, length-append (chunks_bytes s.first s.chunks) (is.gate ∷ is.rest))) below (leb-true _ _ some) (ltb-true _ _ starts.1))
 
-segment_below : (file : File) (s : Segment) → IsSegment file s → s.first + length (flat s.chunks) ≤ 2 ^ 62
+segment_below : (file : File) (s : WholeSegment) → IsSegment file s → s.first + length (flat s.chunks) ≤ 2 ^ 62
 segment_below file s is = leb-true (end_of s) (2 ^ 62) (and_parts (leb (end_of s) (2 ^ 62)) (ltb s.number (2 ^ 62)) is.within).0
 
-segment_is : (s t : Segment) → s.number ≡ t.number → s.first ≡ t.first → s.chunks ≡ t.chunks → s ≡ t
+segment_is : (s t : WholeSegment) → s.number ≡ t.number → s.first ≡ t.first → s.chunks ≡ t.chunks → s ≡ t
 segment_is s t number first chunks =
     ap (λ (n : ℕ). record { number = n; first = s.first; chunks = s.chunks }) number
     ∙ ap (λ (n : ℕ). record { number = t.number; first = n; chunks = s.chunks }) first
     ∙ ap (λ (x : List (List Record)). record { number = t.number; first = t.first; chunks = x }) chunks
 
-pub one_segment : (file : File) (s t : Segment) → IsSegment file s → IsSegment file t → s ≡ t
+pub one_segment : (file : File) (s t : WholeSegment) → IsSegment file s → IsSegment file t → s ≡ t
 one_segment file s t is it =
     let first : s.first ≡ t.first = ok_is s.first t.first (sym (segment_header file s is) ∙ segment_header file t it) in
     let all_t : IsTrue (are_chunks s.first t.chunks) = ap (λ (n : ℕ). are_chunks n t.chunks) first ∙ it.chunks in
@@ -144,7 +144,7 @@ failed_is r f g p q = cc
 refused_tail : (file : File) (fault : ScanFault) (r : RefusesBody file fault) → chunks_bytes r.before.first r.before.chunks ++ 1 ∷ r.behind ≡ drop 22 file.1
 refused_tail file fault r = sym (ap (drop 22) r.spelled)
 
-pub not_both : (file : File) (s : Segment) (fault : ScanFault) → IsSegment file s → IsRefused file fault → ⊥
+pub not_both : (file : File) (s : WholeSegment) (fault : ScanFault) → IsSegment file s → IsRefused file fault → ⊥
 not_both file s fault is (inl failed) = let head = segment_header file s is in cc
 not_both file s fault is (inr r) =
     let a = r.before.chunks in
@@ -184,5 +184,5 @@ one_fault file f g (inr p) (inr q) =
       | inr l ↦ let s = stops_there p.before.first (length (segment_spelling q.before)) b a q.behind 1 p.behind g l p.within refuses in (s.0, sym (ap (drop 1) s.1))
     ] in
     let before : q.before ≡ p.before = segment_is q.before p.before (q.number ∙ sym p.number) (sym first) (sym same.0) in
-    let moved : RefusesChunk (length (segment_spelling p.before)) (end_of p.before) q.behind g = subst (λ (s : Segment). RefusesChunk (length (segment_spelling s)) (end_of s) q.behind g) before q.chunk in
+    let moved : RefusesChunk (length (segment_spelling p.before)) (end_of p.before) q.behind g = subst (λ (s : WholeSegment). RefusesChunk (length (segment_spelling s)) (end_of s) q.behind g) before q.chunk in
     one_refusal (length (segment_spelling p.before)) (end_of p.before) p.behind f g p.chunk (subst (λ (x : List ℕ). RefusesChunk (length (segment_spelling p.before)) (end_of p.before) x g) (sym same.1) moved)

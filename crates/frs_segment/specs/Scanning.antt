@@ -3,28 +3,28 @@ use Rattle.std.specs.Prelude.{◌≡◌, ◌⊎◌, ℕ, ◌+◌, ◌^◌, ◌�
 use Rattle.std.specs.Str.{bytes_eq}
 use Rattle.std.specs.Int.{Width, w32, w64, byte_len, from_be_bytes}
 use Rattle.frs_types.specs.declared.record.Record.{Record}
-use Rattle.frs_types.specs.Records.{allowed, allowed_from}
+use Rattle.frs_types.specs.Records.{is_allowed, are_allowed_from}
 use Rattle.frs_frame.specs.Spelling.{spelling}
 use Rattle.frs_disk.specs.Disk.{IsNumber}
 use Rattle.frs_segment.specs.declared.layout.ChunkPlace.{ChunkPlace}
-use Rattle.frs_segment.specs.declared.layout.Segment.{Segment as Described}
+use Rattle.frs_segment.specs.declared.layout.Segment.{Segment}
 use Rattle.frs_segment.specs.declared.fault.ScanFault.{ScanFault}
 use Rattle.frs_segment.specs.declared.fault.ScanFault.TheVariants.{HalfMade, BadHeader, BadChunk, NumberLimit, Disk, Memory}
-use Rattle.frs_segment.specs.Segments.{File, Segment, IsSegment, body, chunk_bytes, segment_spelling, is_chunk, are_chunks, is_open, end_of}
+use Rattle.frs_segment.specs.Segments.{File, WholeSegment, IsSegment, body, chunk_bytes, segment_spelling, is_chunk, are_chunks, is_open_file, end_of}
 
 -- ---- where a segment's chunks stand
 
-abbrev pub place_of : ℕ → ℕ → List Record → ChunkPlace
-place_of offset first rs = record { offset = offset; first = first; count = length rs; body = length (body rs) }
+abbrev pub chunk_place : ℕ → ℕ → List Record → ChunkPlace
+chunk_place offset first rs = record { offset = offset; first = first; count = length rs; body = length (body rs) }
 
 -- each chunk stands behind the one before it: a gate and 16 bytes of head, and then its body
 abbrev pub places_from : ℕ → ℕ → List (List Record) → List ChunkPlace
 places_from offset first [] = []
-places_from offset first (rs ∷ chunks) = place_of offset first rs ∷ places_from (offset + 17 + length (body rs)) (first + length rs) chunks
+places_from offset first (rs ∷ chunks) = chunk_place offset first rs ∷ places_from (offset + 17 + length (body rs)) (first + length rs) chunks
 
 -- the segment as one who has read its file knows it; the first chunk stands behind the 22 bytes of the header
-abbrev pub described : Segment → Described
-described s = record { number = s.number; first = s.first; «end» = end_of s; length = length (segment_spelling s) + 1; chunks = places_from 22 s.first s.chunks }
+abbrev pub places_of_segment : WholeSegment → Segment
+places_of_segment s = record { number = s.number; first = s.first; «end» = end_of s; length = length (segment_spelling s) + 1; chunks = places_from 22 s.first s.chunks }
 
 -- ---- the fields of a file's header and of a chunk's head
 
@@ -36,7 +36,7 @@ number_at width at bytes = from_be_bytes width (take (byte_len width) (drop at b
 -- number or its first LSN is wrong, or this LSN is too large.
 unfoldable pub header_of : File → Result ℕ ScanFault
 header_of file =
-    if not (is_open file) then Err HalfMade else
+    if not (is_open_file file) then Err HalfMade else
     if not (bytes_eq (slice_range file.1 1 5) (codes "FRSS")) then Err (BadHeader 1) else
     if not (slice_index file.1 5 == 1) then Err (BadHeader 5) else
     if not (number_at w64 6 file.1 == file.0) then Err (BadHeader 6) else
@@ -63,7 +63,7 @@ head_of offset next behind =
 pub record FillBody (place : ChunkPlace) (text : List ℕ) (rs : List Record) : Type 0 where
   pub spelled : text ≡ body rs
   pub count_is : length rs ≡ place.count
-  pub allowed : IsTrue (allowed_from place.first rs)
+  pub allowed : IsTrue (are_allowed_from place.first rs)
 
 -- From the front of these bytes on, behind an open gate, there is the chunk that the place tells, with these records,
 -- and then a gate.
@@ -87,7 +87,7 @@ RefusesChunk offset next behind fault =
 
 -- The file begins as a segment up to an open gate, and behind this gate stands no chunk.
 pub record RefusesBody (file : File) (fault : ScanFault) : Type 0 where
-  pub before : Segment
+  pub before : WholeSegment
   pub behind : List ℕ
   pub header : header_of file ≡ Ok before.first
   pub number : before.number ≡ file.0
@@ -103,16 +103,16 @@ IsRefused file fault = (header_of file ≡ Err fault) ⊎ RefusesBody file fault
 -- ---- what a call that reads has answered
 
 -- the segment that the file is, or what is wrong first; want of memory is free
-abbrev pub TellsFile : File → Result Described ScanFault → Type 0
-TellsFile file (Ok found) = IsNumber file.0 → (s : Segment) × IsSegment file s × (found ≡ described s)
+abbrev pub TellsFile : File → Result Segment ScanFault → Type 0
+TellsFile file (Ok found) = IsNumber file.0 → (s : WholeSegment) × IsSegment file s × (found ≡ places_of_segment s)
 TellsFile file (Err Memory) = Unit {0}
 TellsFile file (Err fault) = IsRefused file fault
 
 -- Why a call that reads the file has answered a fault: this is wrong first. The disk and memory are free.
-abbrev pub IsCauseIn : File → ScanFault → Type 0
-IsCauseIn file Disk = Unit {0}
-IsCauseIn file Memory = Unit {0}
-IsCauseIn file fault = IsRefused file fault
+abbrev pub IsCauseInFile : File → ScanFault → Type 0
+IsCauseInFile file Disk = Unit {0}
+IsCauseInFile file Memory = Unit {0}
+IsCauseInFile file fault = IsRefused file fault
 
 -- the place of the chunk behind the open gate at the offset, or what is wrong first; want of memory is free
 abbrev pub TellsChunk : ℕ → ℕ → List ℕ → Result ChunkPlace ScanFault → Type 0
@@ -149,5 +149,5 @@ RefusesPlace place text Memory = Unit {0}
 
 -- the record at the front that may have this LSN, and where it ends; or there is none
 abbrev pub TellsRecord : List ℕ → ℕ → Option (Record × ℕ) → Type 0
-TellsRecord bytes lsn (Some (r, len)) = IsTrue (allowed lsn r) × (bytes ≡ spelling r ++ drop len bytes) × (len ≤ length bytes)
-TellsRecord bytes lsn None = (r : Record) (rest : List ℕ) → IsTrue (allowed lsn r) → bytes ≡ spelling r ++ rest → ⊥
+TellsRecord bytes lsn (Some (r, len)) = IsTrue (is_allowed lsn r) × (bytes ≡ spelling r ++ drop len bytes) × (len ≤ length bytes)
+TellsRecord bytes lsn None = (r : Record) (rest : List ℕ) → IsTrue (is_allowed lsn r) → bytes ≡ spelling r ++ rest → ⊥

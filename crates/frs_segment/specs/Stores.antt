@@ -4,8 +4,8 @@ use Rattle.std.specs.Prelude.{◌≡◌, ◌⊎◌, ℕ, ◌+◌, ◌-◌, Bool,
 use Rattle.std.specs.List.{last_or}
 use Rattle.frs_types.specs.Records.{Log, next_lsn, from_lowest}
 use Rattle.frs_segment.specs.declared.layout.Found.{Found}
-use Rattle.frs_segment.specs.Segments.{File, Image, Segment, is_open, SpellsBy, places}
-use Rattle.frs_segment.specs.Scanning.{described}
+use Rattle.frs_segment.specs.Segments.{File, FileList, WholeSegment, is_open_file, SpellsBy, places_of}
+use Rattle.frs_segment.specs.Scanning.{places_of_segment}
 
 -- ---- what was found
 
@@ -13,16 +13,16 @@ abbrev pub numbers_of : List File → List ℕ
 numbers_of files = map (λ (f : File). f.0) files
 
 -- the file stands below all of the segments
-abbrev pub is_below : List Segment → File → Bool
+abbrev pub is_below : List WholeSegment → File → Bool
 is_below [] file = false
 is_below (s ∷ segments) file = nat_lt file.0 s.number
 
 -- An image spells a log by these segments, and this is what was found: the segments, the half-made files among and above
 -- them, all files below them, the greatest number of a file, the next LSN, and the lowest that the newest record names.
-pub record IsFound (image : Image) (segments : List Segment) (log : Log) (found : Found) : Type 0 where
+pub record IsFound (image : FileList) (segments : List WholeSegment) (log : Log) (found : Found) : Type 0 where
   pub spelled : SpellsBy image segments log
-  pub segments_are : found.segments ≡ map described segments
-  pub half_are : found.half ≡ numbers_of (filter (λ (f : File). not (is_open f) && not (is_below segments f)) image)
+  pub segments_are : found.segments ≡ map places_of_segment segments
+  pub half_are : found.half ≡ numbers_of (filter (λ (f : File). not (is_open_file f) && not (is_below segments f)) image)
   pub older_are : found.older ≡ numbers_of (filter (is_below segments) image)
   pub greatest_is : found.greatest ≡ unwrap_or (last_or None (numbers_of image)) 0
   pub next_is : found.next ≡ next_lsn log
@@ -32,9 +32,9 @@ pub record IsFound (image : Image) (segments : List Segment) (log : Log) (found 
 
 -- The second image spells what the first one spells and, unless this log is empty, by files with the same numbers and
 -- first LSNs.
-abbrev pub SpellsAlike : Image → Image → Type 0
-SpellsAlike a b = (log : Log) (segments : List Segment) → SpellsBy a segments log
-    → (others : List Segment) × SpellsBy b others log × ((log.records ≡ []) ⊎ (places others ≡ places segments))
+abbrev pub SpellsAlike : FileList → FileList → Type 0
+SpellsAlike a b = (log : Log) (segments : List WholeSegment) → SpellsBy a segments log
+    → (others : List WholeSegment) × SpellsBy b others log × ((log.records ≡ []) ⊎ (places_of others ≡ places_of segments))
 
 -- ---- a log up to one of its records
 

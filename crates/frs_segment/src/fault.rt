@@ -1,7 +1,7 @@
 //! Why a file, or a chunk in it, couldn't be read as a segment.
 ghost use Rattle.std.specs.Prelude.{◌≡◌};
 ghost use Rattle.frs_segment.specs.declared.fault.ScanFault.TheVariants.{Memory};
-ghost use Rattle.frs_segment.specs.Faults.{of_disk};
+ghost use Rattle.frs_segment.specs.Faults.{scan_fault_of};
 
 use frs_disk::Fault;
 use frs_types::NoMemory;
@@ -55,7 +55,7 @@ impl fmt::Display for ScanFault {
 impl std::error::Error for ScanFault {}
 
 impl From<Fault> for ScanFault {
-    ghost from_gives = { λ fault e. e ≡ of_disk fault };
+    ghost from_gives = { λ fault e. e ≡ scan_fault_of fault };
 
     fn from(fault: Fault) -> Self {
         match fault {

@@ -4,31 +4,31 @@ ghost use Rattle.frs_types.specs.Records.{Log};
 ghost use Rattle.frs_disk.specs.Disk.{IsNumber};
 ghost use Rattle.frs_segment.specs.declared.fault.ScanFault.{ScanFault};
 ghost use Rattle.frs_segment.specs.declared.fault.ScanFault.TheVariants.{HalfMade, Disk, Memory};
-ghost use Rattle.frs_segment.specs.Segments.{File, Image, Segment, IsSegment, is_open, SpellsBy, Spells};
+ghost use Rattle.frs_segment.specs.Segments.{File, FileList, WholeSegment, IsSegment, is_open_file, SpellsBy, Spells};
 ghost use Rattle.frs_segment.specs.Scanning.{IsRefused};
 
 /// A file is at most one segment. If it is none, one thing is wrong with it first.
 pub fn one_segment()
-    ensures segment { (file : File) (s t : Segment) → IsSegment file s → IsSegment file t → s ≡ t }
-    ensures refused { (file : File) (s : Segment) (fault : ScanFault) → IsSegment file s → IsRefused file fault → ⊥ }
+    ensures segment { (file : File) (s t : WholeSegment) → IsSegment file s → IsSegment file t → s ≡ t }
+    ensures refused { (file : File) (s : WholeSegment) (fault : ScanFault) → IsSegment file s → IsRefused file fault → ⊥ }
     ensures fault { (file : File) (fault other : ScanFault) → IsRefused file fault → IsRefused file other → fault ≡ other }
 {}
 
 /// A file of bytes whose number may be a segment's is a segment, or one thing is wrong with it first.
 pub fn segment_or_refused()
-    ensures { (file : File) → IsNumber file.0 → All (λ b. b < 256) file.1 → ((s : Segment) × IsSegment file s) ⊎ ((fault : ScanFault) × IsRefused file fault) }
+    ensures { (file : File) → IsNumber file.0 → All (λ b. b < 256) file.1 → ((s : WholeSegment) × IsSegment file s) ⊎ ((fault : ScanFault) × IsRefused file fault) }
 {}
 
 /// A file is refused as half-made exactly where it isn't open. The disk and memory are never what is wrong with a file.
 pub fn refusals()
-    ensures half_made { (file : File) → IsRefused file HalfMade → IsTrue (not (is_open file)) }
-    ensures shut { (file : File) → IsTrue (not (is_open file)) → IsRefused file HalfMade }
+    ensures half_made { (file : File) → IsRefused file HalfMade → IsTrue (not (is_open_file file)) }
+    ensures shut { (file : File) → IsTrue (not (is_open_file file)) → IsRefused file HalfMade }
     ensures disk { (file : File) → IsRefused file Disk → ⊥ }
     ensures memory { (file : File) → IsRefused file Memory → ⊥ }
 {}
 
 /// The files of a store spell at most one log, and by at most one list of segments.
 pub fn one_log()
-    ensures segments { (image : Image) (a b : List Segment) (log other : Log) → SpellsBy image a log → SpellsBy image b other → a ≡ b }
-    ensures log { (image : Image) (log other : Log) → Spells image log → Spells image other → log ≡ other }
+    ensures segments { (image : FileList) (a b : List WholeSegment) (log other : Log) → SpellsBy image a log → SpellsBy image b other → a ≡ b }
+    ensures log { (image : FileList) (log other : Log) → Spells image log → Spells image other → log ≡ other }
 {}

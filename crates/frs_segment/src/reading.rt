@@ -5,9 +5,9 @@ ghost use Rattle.std.specs.FinMap.{get};
 ghost use Rattle.frs_types.specs.declared.record.Record.{Record as Described};
 ghost use Rattle.frs_disk.specs.Disk.{bytes_at, IsNumber, Keeps, Elapses, HasCause};
 ghost use Rattle.frs_segment.specs.declared.fault.ScanFault.{ScanFault as Refusal};
-ghost use Rattle.frs_segment.specs.Segments.{Segment as Meant, IsSegment};
-ghost use Rattle.frs_segment.specs.Faults.{HasDiskCause, Gives};
-ghost use Rattle.frs_segment.specs.Scanning.{head_of, described, IsChunk, IsRefused, IsCauseIn, IsFaultAt, RefusesPlace};
+ghost use Rattle.frs_segment.specs.Segments.{WholeSegment, IsSegment};
+ghost use Rattle.frs_segment.specs.Faults.{HasScanCause, GivesScanned};
+ghost use Rattle.frs_segment.specs.Scanning.{head_of, places_of_segment, IsChunk, IsRefused, IsCauseInFile, IsFaultAt, RefusesPlace};
 
 use crate::fault::ScanFault;
 use crate::heads::{FRONT, MOST_BODY, head_at};
@@ -32,26 +32,26 @@ pub fn scan<D: Disk>(alloc: Global, disk: &mut D, number: u64) -> Result<Segment
 
     // What is read is the segment that the file is.
     ensures found { IfOk result (λ found. IsTrue (D.tells disk.old)
-        → (s : Meant) × IsSegment (number, bytes_at (D.reads disk.old) number) s × (found ≡ described s)) }
+        → (s : WholeSegment) × IsSegment (number, bytes_at (D.reads disk.old) number) s × (found ≡ places_of_segment s)) }
 
     // It is a segment of this number also where the disk doesn't tell the file.
-    ensures meant { IfOk result (λ found. IsNumber number → (bytes : List ℕ) × (s : Meant) × IsSegment (number, bytes) s × (found ≡ described s)) }
+    ensures meant { IfOk result (λ found. IsNumber number → (bytes : List ℕ) × (s : WholeSegment) × IsSegment (number, bytes) s × (found ≡ places_of_segment s)) }
 
     // If the file is a segment, that is read, unless the disk or memory fails.
-    ensures only { IsTrue (D.tells disk.old) → (s : Meant) → IsSegment (number, bytes_at (D.reads disk.old) number) s
-        → Gives (λ found. found) result (Ok (described s)) }
+    ensures only { IsTrue (D.tells disk.old) → (s : WholeSegment) → IsSegment (number, bytes_at (D.reads disk.old) number) s
+        → GivesScanned (λ found. found) result (Ok (places_of_segment s)) }
 
     // Which fault it is: that which is first.
-    ensures why { IsTrue (D.tells disk.old) → IfErr result (IsCauseIn (number, bytes_at (D.reads disk.old) number)) }
+    ensures why { IsTrue (D.tells disk.old) → IfErr result (IsCauseInFile (number, bytes_at (D.reads disk.old) number)) }
     ensures refused { IsTrue (D.tells disk.old) → (fault : Refusal) → IsRefused (number, bytes_at (D.reads disk.old) number) fault
-        → Gives (λ found. found) result (Err fault) }
+        → GivesScanned (λ found. found) result (Err fault) }
 
     ensures told { D.tells disk.new ≡ D.tells disk.old }
     ensures seen { D.reads disk.new ≡ D.reads disk.old }
     ensures pending { (n : ℕ) → D.removing disk.new n → D.removing disk.old n }
     ensures crash { Keeps (D.may_leave disk.old) (D.may_leave disk.new) }
     ensures time { Elapses D.moment D.left_since D.may_leave disk.old disk.new }
-    ensures cause { HasDiskCause (D.faults disk.old) (D.faults disk.new) result }
+    ensures cause { HasScanCause (D.faults disk.old) (D.faults disk.new) result }
 {
     let bytes = read_whole(alloc, disk, number)?;
     segment_in(alloc, number, bytes.as_slice())
@@ -95,7 +95,7 @@ pub fn read_chunk<D: Disk>(
     // If it stands there, it is read, unless the disk or memory fails.
     ensures only { IsTrue (D.tells disk.old) → (rs : List Described)
         → IsChunk place.now (drop place.now.offset (bytes_at (D.reads disk.old) number)) rs
-        → Gives (λ records. records.items) result (Ok rs) }
+        → GivesScanned (λ records. records.items) result (Ok rs) }
 
     // Else it is said that it doesn't stand there, and nothing more.
     ensures why { IfErr result (IsFaultAt place.now) }
@@ -105,7 +105,7 @@ pub fn read_chunk<D: Disk>(
     ensures pending { (n : ℕ) → D.removing disk.new n → D.removing disk.old n }
     ensures crash { Keeps (D.may_leave disk.old) (D.may_leave disk.new) }
     ensures time { Elapses D.moment D.left_since D.may_leave disk.old disk.new }
-    ensures cause { HasDiskCause (D.faults disk.old) (D.faults disk.new) result }
+    ensures cause { HasScanCause (D.faults disk.old) (D.faults disk.new) result }
 {
     if place.body > MOST_BODY {
         return Err(ScanFault::BadChunk {

@@ -1,6 +1,6 @@
 //! The records of a chunk: they fill its body, and each may stand at its LSN.
 ghost use Rattle.std.specs.Prelude.{◌≡◌, ◌+◌, ◌<◌, ◌≤◌, ◌^◌, IfOk, IfErr, IsTrue};
-ghost use Rattle.frs_types.specs.Records.{allowed, well_formed};
+ghost use Rattle.frs_types.specs.Records.{is_allowed, well_formed};
 ghost use Rattle.frs_segment.specs.Scanning.{FillBody, RefusesRecords, TellsRecord};
 
 use crate::fault::ScanFault;
@@ -58,7 +58,7 @@ fn record_at(alloc: Global, bytes: &[u8], lsn: u64) -> Result<Option<(Record, us
 // Whether a record may have this LSN: its numbers don't pass it, and only a begin is its own transaction.
 fn suits(written: &Record, lsn: u64) -> bool
     requires { IsTrue (well_formed written.now) }
-    ensures { result ≡ allowed lsn written.now }
+    ensures { result ≡ is_allowed lsn written.now }
 {
     let transaction = match &written.action {
         Action::Begin => written.tx == lsn,

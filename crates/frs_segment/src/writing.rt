@@ -1,7 +1,7 @@
 //! How a segment file is made, and how a chunk is written behind its gate.
 ghost use Rattle.std.specs.Prelude.{◌≡◌, ◌+◌, ◌<◌, ◌≤◌, ◌^◌, ℕ, [], ◌∷◌, Some, None, length, take, slice_set, IsTrue, IsSomeAnd, IfOk, OnOk};
 ghost use Rattle.std.specs.FinMap.{get};
-ghost use Rattle.frs_disk.specs.Disk.{bytes_at, overwritten, IsNumber, SameElsewhere, AgreesElsewhere, IsSynced, Passes, Within, HasCause};
+ghost use Rattle.frs_disk.specs.Disk.{bytes_at, bytes_after_write, IsNumber, SameElsewhere, AgreesElsewhere, IsSynced, Passes, Within, HasCause};
 ghost use Rattle.frs_segment.specs.Front.{closed_header, empty_segment, IsAbsentOrShort, IsInTheMaking, HasAnyGate};
 
 use frs_disk::{Disk, Fault};
@@ -38,7 +38,7 @@ pub fn put_body<D: Disk>(disk: &mut D, number: u64, gate_at: u64, body: &[u8]) -
     requires fits { gate_at + 1 < 2 ^ 64 }
 
     ensures written { OnOk result (IsTrue (D.tells disk.old)
-        → get (D.reads disk.new) number ≡ Some (overwritten (gate_at + 1) body.now (bytes_at (D.reads disk.old) number))) }
+        → get (D.reads disk.new) number ≡ Some (bytes_after_write (gate_at + 1) body.now (bytes_at (D.reads disk.old) number))) }
     ensures durable { OnOk result (IsSynced D.reads D.may_leave disk.new number) }
 
     // A crash in the call leaves all bytes up to the gate and the gate as they were.

@@ -7,12 +7,12 @@ use Rattle.rtrb.specs.Ends.{SameRing}
 use Rattle.rtrb.specs.Ring.{sent, received, IsPair, SameProducer, SameConsumer}
 use denote.RawPtr.{Ptr, block_ptr, null_ptr}
 use Rattle.frs_slots.specs.Views.{Ring, DrawerView, TakerView}
-use Rattle.frs_slots.specs.Names.{Pushes, Pops, place_of, name_of_end, pushes_on, pops_from}
+use Rattle.frs_slots.specs.Names.{Pushes, Pops, place_of_slot, name_of_end, pushes_on, pops_from}
 
 abbrev Ending : Type 0
 Ending = End (List ℕ) Global AnyItems
 
-place_inj : (p q : Ptr) → place_of p ≡ place_of q → p ≡ q
+place_inj : (p q : Ptr) → place_of_slot p ≡ place_of_slot q → p ≡ q
 place_inj (block_ptr b o) (block_ptr c u) e = cc
 place_inj (block_ptr b o) null_ptr e = cc
 place_inj null_ptr (block_ptr c u) e = cc
@@ -50,7 +50,7 @@ same_ring a b e = (
 named_alike : (a b : Ending) → SameRing a b → name_of_end b ≡ name_of_end a
 unfolding name_of_end
 named_alike a b same =
-    λ i. place_of (same.0 i) ∷ place_of (same.1 i) ∷ ((same.2 i).0 ∷ (same.2 i).1.0 ∷ (same.2 i).1.1 ∷ []) ∷ []
+    λ i. place_of_slot (same.0 i) ∷ place_of_slot (same.1 i) ∷ ((same.2 i).0 ∷ (same.2 i).1.0 ∷ (same.2 i).1.1 ∷ []) ∷ []
 
 pub is_pair : (p : Pushes) (c : Pops) → pushes_on p ≡ pops_from c → IsPair p c
 is_pair p c e = same_ring p.end c.end e

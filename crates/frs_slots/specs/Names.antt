@@ -15,13 +15,13 @@ Pushes = Producer (List ℕ) Global AnyItems
 abbrev pub Pops : Type 0
 Pops = Consumer (List ℕ) Global AnyItems
 
-abbrev pub place_of : Ptr → List ℕ
-place_of (block_ptr block offset) = block ∷ offset ∷ []
-place_of null_ptr = []
+abbrev pub place_of_slot : Ptr → List ℕ
+place_of_slot (block_ptr block offset) = block ∷ offset ∷ []
+place_of_slot null_ptr = []
 
 -- where the ring's two blocks of memory lie, its capacity and the names of its two ends
 unfoldable pub name_of_end : End (List ℕ) Global AnyItems → Ring
-name_of_end e = place_of e.words ∷ place_of e.slots ∷ (e.names.0 ∷ e.names.1.0 ∷ e.names.1.1 ∷ []) ∷ []
+name_of_end e = place_of_slot e.words ∷ place_of_slot e.slots ∷ (e.names.0 ∷ e.names.1.0 ∷ e.names.1.1 ∷ []) ∷ []
 
 abbrev pub pushes_on : Pushes → Ring
 pushes_on p = name_of_end p.end

@@ -20,7 +20,7 @@ use Rattle.std.specs.Ordering.{eq_by_cmp, ordering_reverse}
 use Rattle.frs_types.specs.declared.record.Entry.{Entry}
 use Rattle.frs_types.specs.Maps.{Place, Maps, place_cmp, same_place}
 use Rattle.frs_types.specs.Survivors.{maps_of}
-use Rattle.frs_recovery.specs.Answers.{place_of}
+use Rattle.frs_recovery.specs.Answers.{place_of_entry}
 use Rattle.frs_text.specs.Rows.{pair_of, pairs_of, row_line}
 use Rattle.frs_text.specs.Text.{entry_line, dump}
 
@@ -77,25 +77,25 @@ puts t es = fold (λ t (e : Entry). put place_cmp (e.id, e.key) e.value t) t es
 
 puts_sorted : (es : List Entry) (t : Maps) → T (is_sorted place_cmp t) → T (is_sorted place_cmp (puts t es))
 puts_sorted [] t h = h
-puts_sorted (e ∷ es) t h = puts_sorted es (put place_cmp (place_of e) e.value t) (is_sorted-put place_cmp place_total (place_of e) e.value t h)
+puts_sorted (e ∷ es) t h = puts_sorted es (put place_cmp (place_of_entry e) e.value t) (is_sorted-put place_cmp place_total (place_of_entry e) e.value t h)
 
 abbrev either : {X : Type 0} → Option X → Option X → Option X
 either None b = b
 either (Some a) b = Some a
 
-missing : (p : Place) (es : List Entry) → AllByRecursion (λ q. eq_by_cmp place_cmp p q ≡ false) (map place_of es) → find place_cmp p (map pair_of es) ≡ None
+missing : (p : Place) (es : List Entry) → AllByRecursion (λ q. eq_by_cmp place_cmp p q ≡ false) (map place_of_entry es) → find place_cmp p (map pair_of es) ≡ None
 missing p [] h = refl
 missing p (e ∷ es) h = ap (λ b. cond b (Some e.value) (find place_cmp p (map pair_of es))) h.0 ∙ missing p es h.1
 
-found_in_puts : (q : Place) (es : List Entry) (t : Maps) → IsDistinct (eq_by_cmp place_cmp) (map place_of es) → find place_cmp q (puts t es) ≡ either (find place_cmp q (map pair_of es)) (find place_cmp q t)
+found_in_puts : (q : Place) (es : List Entry) (t : Maps) → IsDistinct (eq_by_cmp place_cmp) (map place_of_entry es) → find place_cmp q (puts t es) ≡ either (find place_cmp q (map pair_of es)) (find place_cmp q t)
 found_in_puts q [] t apart = refl
 found_in_puts q (e ∷ es) t apart =
-    found_in_puts q es (put place_cmp (place_of e) e.value t) (IsDistinct-tail (eq_by_cmp place_cmp) (place_of e) (map place_of es) apart)
-    ∙ ap (either (find place_cmp q (map pair_of es))) (find-put place_cmp place_total q (place_of e) e.value t)
-    ∙ elim (cases_Bool (eq_by_cmp place_cmp q (place_of e))) [
+    found_in_puts q es (put place_cmp (place_of_entry e) e.value t) (IsDistinct-tail (eq_by_cmp place_cmp) (place_of_entry e) (map place_of_entry es) apart)
+    ∙ ap (either (find place_cmp q (map pair_of es))) (find-put place_cmp place_total q (place_of_entry e) e.value t)
+    ∙ elim (cases_Bool (eq_by_cmp place_cmp q (place_of_entry e))) [
       | inl same ↦
           let none : find place_cmp q (map pair_of es) ≡ None =
-          sym (find_tied place_cmp place_total q (place_of e) (is_equal _ same) (map pair_of es)) ∙ missing (place_of e) es (IsDistinct-head (eq_by_cmp place_cmp) (place_of e) (map place_of es) apart) in
+          sym (find_tied place_cmp place_total q (place_of_entry e) (is_equal _ same) (map pair_of es)) ∙ missing (place_of_entry e) es (IsDistinct-head (eq_by_cmp place_cmp) (place_of_entry e) (map place_of_entry es) apart) in
           rw (none, same) refl
       | inr other ↦ rw other refl
     ]
@@ -143,17 +143,17 @@ or_none None = refl
 or_none (Some a) = refl
 
 abbrev place_at : Bor Entry → Place
-place_at r = place_of r.now
+place_at r = place_of_entry r.now
 
 pub rows_in_order : (es : List Entry) (first rows : List (Bor Entry)) → map (λ (r : Bor Entry). r.now) first ≡ es → IsPermutation first rows
-    → IsSortedBy (λ (x y : Bor Entry). is_lt (place_cmp (place_at x) (place_at y))) rows → IsDistinct same_place (map place_of es) → pairs_of rows ≡ maps_of es
+    → IsSortedBy (λ (x y : Bor Entry). is_lt (place_cmp (place_at x) (place_at y))) rows → IsDistinct same_place (map place_of_entry es) → pairs_of rows ≡ maps_of es
 rows_in_order es first rows are moved sorted apart =
     let row_pair : Bor Entry → Place × List ℕ = λ r. pair_of r.now in
-    let keys_first : map place_at first ≡ map place_of es = sym (map-map place_of (λ (r : Bor Entry). r.now) first) ∙ ap (map place_of) are in
+    let keys_first : map place_at first ≡ map place_of_entry es = sym (map-map place_of_entry (λ (r : Bor Entry). r.now) first) ∙ ap (map place_of_entry) are in
     let first_pairs : pairs_of first ≡ map pair_of es = sym (map-map pair_of (λ (r : Bor Entry). r.now) first) ∙ ap (map pair_of) are in
     let first_keys : keys_of (pairs_of first) ≡ map place_at first = map-map (λ (e : Place × List ℕ). e.0) row_pair first in
     let row_keys : keys_of (pairs_of rows) ≡ map place_at rows = map-map (λ (e : Place × List ℕ). e.0) row_pair rows in
-    let distinct : IsDistinct (eq_by_cmp place_cmp) (map place_of es) = apart_in_order (map place_of es) apart in
+    let distinct : IsDistinct (eq_by_cmp place_cmp) (map place_of_entry es) = apart_in_order (map place_of_entry es) apart in
     let first_apart : IsDistinct (eq_by_cmp place_cmp) (map place_at first) = subst (λ ps. IsDistinct (eq_by_cmp place_cmp) ps) (sym keys_first) distinct in
     let rows_apart : IsDistinct (eq_by_cmp place_cmp) (map place_at rows) =
     IsDistinct-IsPermutation (eq_by_cmp place_cmp) (eq_by_cmp_equiv place_total).symm (map place_at first) (map place_at rows) (IsPermutation-map place_at first rows moved) first_apart in

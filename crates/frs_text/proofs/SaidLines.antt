@@ -7,24 +7,24 @@ use Rattle.frs_history.specs.declared.command.Line.{Line}
 use Rattle.frs_history.specs.Scripts.{may_stand}
 use Rattle.frs_text.specs.Scripts.{Said, Allowed, is_long, is_inside, fault_of}
 use Rattle.frs_text.specs.Scripts.Said.{Nothing, Says, Wrong}
-use Rattle.frs_text.specs.Reading.{seen}
+use Rattle.frs_text.specs.Reading.{seen_words}
 use Rattle.frs_text.specs.declared.said.Reading.TheVariants as reading
 use Rattle.frs_text.specs.declared.script_fault.ScriptFault.TheVariants.{TooLong}
 
-says_seen : (x : Command) → ((seen (Says x) ≡ reading.Long) × (is_long x ≡ true)) ⊎ ((seen (Says x) ≡ reading.Found x) × (is_long x ≡ false))
+says_seen : (x : Command) → ((seen_words (Says x) ≡ reading.Long) × (is_long x ≡ true)) ⊎ ((seen_words (Says x) ≡ reading.Found x) × (is_long x ≡ false))
 says_seen x = elim (cases_Bool (is_long x)) [ inl t ↦ inl (cond-true _ _ _ t, t) | inr f ↦ inr (cond-false _ _ _ f, f) ]
 
-pub nothing_said : (s : Said) → seen s ≡ reading.Nothing → s ≡ Nothing
+pub nothing_said : (s : Said) → seen_words s ≡ reading.Nothing → s ≡ Nothing
 nothing_said Nothing e = refl
 nothing_said Wrong e = cc
 nothing_said (Says x) e = elim (says_seen x) [ inl p ↦ let q = p.0 in cc | inr p ↦ let q = p.0 in cc ]
 
-pub wrong_said : (s : Said) → seen s ≡ reading.Wrong → s ≡ Wrong
+pub wrong_said : (s : Said) → seen_words s ≡ reading.Wrong → s ≡ Wrong
 wrong_said Nothing e = cc
 wrong_said Wrong e = refl
 wrong_said (Says x) e = elim (says_seen x) [ inl p ↦ let q = p.0 in cc | inr p ↦ let q = p.0 in cc ]
 
-pub found_said : (s : Said) (x : Command) → seen s ≡ reading.Found x → s ≡ Says x
+pub found_said : (s : Said) (x : Command) → seen_words s ≡ reading.Found x → s ≡ Says x
 found_said Nothing x e = cc
 found_said Wrong x e = cc
 found_said (Says y) x e = elim (says_seen y) [ inl p ↦ let q = p.0 in cc | inr p ↦ let q = p.0 in cc ]
@@ -39,7 +39,7 @@ long_may_stand inside (command.Begin sync) t = cc
 long_may_stand inside command.Commit t = cc
 long_may_stand inside command.Snapshot t = cc
 
-pub long_fault : (allowed : Allowed) (before : List Line) (n : ℕ) (s : Said) → seen s ≡ reading.Long → fault_of allowed before n s ≡ Some (TooLong n)
+pub long_fault : (allowed : Allowed) (before : List Line) (n : ℕ) (s : Said) → seen_words s ≡ reading.Long → fault_of allowed before n s ≡ Some (TooLong n)
 long_fault allowed before n Nothing e = cc
 long_fault allowed before n Wrong e = cc
 long_fault allowed before n (Says x) e = elim (says_seen x) [

@@ -8,7 +8,7 @@ use Rattle.std.proofs.lemmas.Bool.{and_parts, and_from, cases_Bool, cond-false, 
 use Rattle.frs_history.specs.declared.command.Command.{Command}
 use Rattle.frs_history.specs.declared.command.Line.{Line}
 use Rattle.frs_history.specs.Scripts.{rises_from, may_stand, inside_after, is_bracketed, is_script}
-use Rattle.frs_text.specs.Scripts.{Said, Allowed, is_inside, refusal, fault_of, line_of, said, unless, script_after, script_of}
+use Rattle.frs_text.specs.Scripts.{Said, Allowed, is_inside, refusal, fault_of, line_of, said, with_fault_unless, script_after, script_of}
 use Rattle.frs_text.specs.Scripts.Said.{Nothing, Says, Wrong}
 use Rattle.frs_text.specs.declared.script_fault.ScriptFault.{ScriptFault}
 use Rattle.frs_text.specs.declared.script_fault.ScriptFault.TheVariants.{BadLine}
@@ -54,7 +54,7 @@ one_more allowed before n Nothing lt e h = let P : List Line → Type 0 = λ ls.
 one_more allowed before n Wrong lt e h = cc
 one_more allowed before n (Says x) lt e h = (rises-push 0 n before x lt h.0 h.2, bracketed-push false n before x h.1 (not_refused allowed before n x e), all_below-push n before x h.2)
 
-after_unless : (fault : Option ScriptFault) (rest : Result (List Line) ScriptFault) (ls : List Line) → unless fault rest ≡ Ok ls → (fault ≡ None) × (rest ≡ Ok ls)
+after_unless : (fault : Option ScriptFault) (rest : Result (List Line) ScriptFault) (ls : List Line) → with_fault_unless fault rest ≡ Ok ls → (fault ≡ None) × (rest ≡ Ok ls)
 after_unless None rest ls e = (refl, e)
 after_unless (Some fault) rest ls e = cc
 

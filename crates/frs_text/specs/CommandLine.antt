@@ -39,17 +39,17 @@ run_of [] = Err 3
 run_of (file ∷ files) = Ok (Run (Scripts (file ∷ files)))
 
 -- a job that no word follows
-abbrev pub plain : PlainPlan → List (List ℕ) → Result Job ℕ
-plain plan [] = Ok (Plain plan)
-plain plan (w ∷ ws) = Err 3
+abbrev pub plain_plan : PlainPlan → List (List ℕ) → Result Job ℕ
+plain_plan plan [] = Ok (Plain plan)
+plain_plan plan (w ∷ ws) = Err 3
 
 -- the job with this name, and the words that follow the name
 abbrev pub job_named : List ℕ → List (List ℕ) → Result Job ℕ
 job_named name ws =
     if bytes_eq name (codes "run") then run_of ws
-    else (if bytes_eq name (codes "recover") then plain Recover ws
-    else (if bytes_eq name (codes "compact") then plain Compact ws
-    else (if bytes_eq name (codes "stat") then plain Stat ws
+    else (if bytes_eq name (codes "recover") then plain_plan Recover ws
+    else (if bytes_eq name (codes "compact") then plain_plan Compact ws
+    else (if bytes_eq name (codes "stat") then plain_plan Stat ws
     else (if bytes_eq name (codes "demo") then demo_of ws
     else Err 2))))
 

@@ -1,6 +1,6 @@
 -- What the readers of a script give, as they see it.
 use Rattle.std.specs.Prelude.{◌≡◌, ◌≤◌, ◌+◌, ◌&&◌, ℕ, Bool, IsTrue, nat_lt, List, ◌++◌, length, Option, Some, None, option_map, if◌then◌else◌}
-use Rattle.frs_text.specs.Scripts.{Said, is_long, is_begin, is_change, is_snapshot, is_inside, changes_of, snapshots_of}
+use Rattle.frs_text.specs.Scripts.{Said, is_long, is_begin_command, is_change, is_snapshot, is_inside, count_of_changes, snapshots_of}
 use Rattle.frs_history.specs.declared.command.Command.{Command}
 use Rattle.frs_history.specs.declared.command.Line.{Line}
 use Rattle.frs_text.specs.Scripts.Said.{Nothing, Says, Wrong}
@@ -16,21 +16,21 @@ abbrev pub within : ℕ → List ℕ → Option (List ℕ)
 within most bytes = if nat_lt most (length bytes) then None else Some bytes
 
 -- what a line says, as the reader has it: a command with a word above its limit has no value
-abbrev pub seen : Said → Reading
-seen Nothing = reading.Nothing
-seen (Says x) = if is_long x then reading.Long else reading.Found x
-seen Wrong = reading.Wrong
+abbrev pub seen_words : Said → Reading
+seen_words Nothing = reading.Nothing
+seen_words (Says x) = if is_long x then reading.Long else reading.Found x
+seen_words Wrong = reading.Wrong
 
 -- what is counted of the lines so far: whether a transaction is open, its changes, and the snapshots
 pub record Counts (lines : List Line) (inside : Bool) (changes snapshots : ℕ) : Type 0 where
   pub open_now : inside ≡ is_inside lines
-  pub changes_so_far : IsTrue inside → changes ≡ changes_of lines
+  pub changes_so_far : IsTrue inside → changes ≡ count_of_changes lines
   pub few : changes ≤ 65536
   pub snapshots_so_far : snapshots ≡ snapshots_of lines
 
 -- the changes of the transaction, and the snapshots, with one more command
 abbrev pub changes_after : Bool → ℕ → Command → ℕ
-changes_after inside changes x = if is_begin x then 0 else (if is_change x && inside then changes + 1 else changes)
+changes_after inside changes x = if is_begin_command x then 0 else (if is_change x && inside then changes + 1 else changes)
 
 abbrev pub snapshots_after : ℕ → Command → ℕ
 snapshots_after snapshots x = if is_snapshot x then snapshots + 1 else snapshots

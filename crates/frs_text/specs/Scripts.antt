@@ -155,13 +155,13 @@ abbrev pub is_snapshot : Command → Bool
 is_snapshot command.Snapshot = true
 is_snapshot other = false
 
-abbrev pub is_begin : Command → Bool
-is_begin (command.Begin sync) = true
-is_begin other = false
+abbrev pub is_begin_command : Command → Bool
+is_begin_command (command.Begin sync) = true
+is_begin_command other = false
 
 -- how many changes stand behind the last `begin`
-abbrev pub changes_of : List Line → ℕ
-changes_of before = fold (λ n (l : Line). if is_begin l.command then 0 else (if is_change l.command then n + 1 else n)) 0 before
+abbrev pub count_of_changes : List Line → ℕ
+count_of_changes before = fold (λ n (l : Line). if is_begin_command l.command then 0 else (if is_change l.command then n + 1 else n)) 0 before
 
 abbrev pub snapshots_of : List Line → ℕ
 snapshots_of before = count_by (λ (l : Line). is_snapshot l.command) before
@@ -189,7 +189,7 @@ abbrev pub is_past : Allowed → List Line → Command → Bool
 is_past allowed before x =
     nat_le allowed.commands (length before)
     || (is_snapshot x && nat_le allowed.snapshots (snapshots_of before))
-    || (is_change x && is_inside before && nat_le 65536 (changes_of before))
+    || (is_change x && is_inside before && nat_le 65536 (count_of_changes before))
 
 -- why line n with this command is refused behind these lines
 abbrev pub refusal : Allowed → List Line → ℕ → Command → Option ScriptFault
@@ -209,15 +209,15 @@ line_of n Nothing = []
 line_of n Wrong = []
 line_of n (Says x) = record { number = n; command = x } ∷ []
 
-abbrev pub unless : {X : Type 0} → Option ScriptFault → Result X ScriptFault → Result X ScriptFault
-unless None result = result
-unless (Some fault) result = Err fault
+abbrev pub with_fault_unless : {X : Type 0} → Option ScriptFault → Result X ScriptFault → Result X ScriptFault
+with_fault_unless None result = result
+with_fault_unless (Some fault) result = Err fault
 
 -- these lines, which begin with number n, read behind those before: the first that is refused decides
 abbrev pub script_after : Allowed → List Line → ℕ → List (List ℕ) → Result (List Line) ScriptFault
 script_after allowed before n [] = Ok before
 script_after allowed before n (bytes ∷ rest) =
-    unless (fault_of allowed before n (said bytes)) (script_after allowed (before ++ line_of n (said bytes)) (n + 1) rest)
+    with_fault_unless (fault_of allowed before n (said bytes)) (script_after allowed (before ++ line_of n (said bytes)) (n + 1) rest)
 
 -- the script of a file's bytes, or the first line that is refused
 abbrev pub script_of : Allowed → List ℕ → Result (List Line) ScriptFault

@@ -15,8 +15,8 @@ use Rattle.frs_history.specs.Machine.{Scripts}
 use Rattle.frs_types.specs.Maps.{Place, Maps}
 use Rattle.frs_types.specs.Records.{Log, next_lsn}
 use Rattle.frs_types.specs.Survivors.{survivors, lowest_of}
-use Rattle.frs_segment.specs.declared.layout.Segment.{Segment as Described}
-use Rattle.frs_segment.specs.Segments.{Segment}
+use Rattle.frs_segment.specs.declared.layout.Segment.{Segment}
+use Rattle.frs_segment.specs.Segments.{WholeSegment}
 use Rattle.frs_recovery.specs.declared.recovered.Recovered.{Recovered}
 
 -- ---- words and lines
@@ -105,10 +105,10 @@ pub record Stat : Type 0 where
   pub gap : ℕ
 
 -- of the log that a store's files spell by these segments
-abbrev pub stat_of : List Segment → Log → Stat
+abbrev pub stat_of : List WholeSegment → Log → Stat
 stat_of segments log = record {
   segments = length segments;
-  chunks = sum_by (λ (s : Segment). length s.chunks) segments;
+  chunks = sum_by (λ (s : WholeSegment). length s.chunks) segments;
   records = length log.records;
   next = next_lsn log;
   lowest = lowest_of log;
@@ -120,7 +120,7 @@ stat_of segments log = record {
 abbrev pub stat_found : Recovered → Stat
 stat_found r = record {
   segments = length r.found.segments;
-  chunks = sum_by (λ (s : Described). length s.chunks) r.found.segments;
+  chunks = sum_by (λ (s : Segment). length s.chunks) r.found.segments;
   records = r.found.next - r.found.named;
   next = r.found.next;
   lowest = r.lowest;

@@ -1,6 +1,6 @@
 //! The words of a command line.
 ghost use Rattle.std.specs.Prelude.{◌≡◌, ◌<◌, ◌^◌, ◌∷◌, IfOk};
-ghost use Rattle.frs_text.specs.CommandLine.{number_up_to, demo_end, demo_with, demo_count, demo_of, run_of, plain, job_named, job_of, plan_of, ReadsAs};
+ghost use Rattle.frs_text.specs.CommandLine.{number_up_to, demo_end, demo_with, demo_count, demo_of, run_of, plain_plan, job_named, job_of, plan_of, ReadsAs};
 
 use crate::plan::{FileNames, Job, PlainPlan, Plan, RunPlan};
 use crate::words_fault::WordsFault;
@@ -51,7 +51,7 @@ fn read_run(alloc: Global, files: &[Name]) -> Result<Job, WordsFault>
 
 // A job that no word follows.
 fn read_plain(plan: PlainPlan, words: &[Name]) -> Result<Job, WordsFault>
-    ensures { ReadsAs result (plain plan words.now) }
+    ensures { ReadsAs result (plain_plan plan words.now) }
 {
     if !words.is_empty() {
         return Err(WordsFault::Usage { word: 3 });

@@ -3,7 +3,7 @@ ghost use Rattle.std.specs.Prelude.{◌≡◌, ℕ, List, [], ◌++◌, OnOk, Is
 ghost use Rattle.std.specs.String.{string_bytes};
 ghost use Rattle.frs_disk.specs.Disk.{HasCause};
 ghost use Rattle.frs_disk.specs.Outside.{AddsPartOf};
-ghost use Rattle.frs_text.specs.Sinks.{Gathers};
+ghost use Rattle.frs_text.specs.Sinks.{GathersText};
 ghost use Rattle.frs_text.specs.Text.{event_line, ack_line};
 
 use crate::lines::{push_ack, push_event};
@@ -18,7 +18,7 @@ fn write_event<S: Sink>(
     event: &Event,
     sink: &mut S,
 ) -> Result<(), Fault>
-    ensures all { OnOk result (IsTrue (S.tells sink.old) → Gathers (S.written sink.old) (string_bytes text.old) (S.written sink.new) (string_bytes text.new) (event_line scripts.now event.now)) }
+    ensures all { OnOk result (IsTrue (S.tells sink.old) → GathersText (S.written sink.old) (string_bytes text.old) (S.written sink.new) (string_bytes text.new) (event_line scripts.now event.now)) }
     ensures part { IsTrue (S.tells sink.old) → AddsPartOf (string_bytes text.old ++ event_line scripts.now event.now) (S.written sink.old) (S.written sink.new) }
     ensures told { S.tells sink.new ≡ S.tells sink.old }
     ensures cause { HasCause (S.faults sink.old) (S.faults sink.new) result }
@@ -28,7 +28,7 @@ fn write_event<S: Sink>(
 }
 
 fn write_ack<S: Sink>(text: &mut String, ack: &Ack, sink: &mut S) -> Result<(), Fault>
-    ensures all { OnOk result (IsTrue (S.tells sink.old) → Gathers (S.written sink.old) (string_bytes text.old) (S.written sink.new) (string_bytes text.new) (ack_line ack.now)) }
+    ensures all { OnOk result (IsTrue (S.tells sink.old) → GathersText (S.written sink.old) (string_bytes text.old) (S.written sink.new) (string_bytes text.new) (ack_line ack.now)) }
     ensures part { IsTrue (S.tells sink.old) → AddsPartOf (string_bytes text.old ++ ack_line ack.now) (S.written sink.old) (S.written sink.new) }
     ensures told { S.tells sink.new ≡ S.tells sink.old }
     ensures cause { HasCause (S.faults sink.old) (S.faults sink.new) result }
@@ -43,7 +43,7 @@ fn write_events<S: Sink>(
     events: &[Event],
     sink: &mut S,
 ) -> Result<(), Fault>
-    ensures all { OnOk result (IsTrue (S.tells sink.old) → Gathers (S.written sink.old) (string_bytes text.old) (S.written sink.new) (string_bytes text.new) (flat_map (event_line scripts.now) events.now)) }
+    ensures all { OnOk result (IsTrue (S.tells sink.old) → GathersText (S.written sink.old) (string_bytes text.old) (S.written sink.new) (string_bytes text.new) (flat_map (event_line scripts.now) events.now)) }
     ensures part { IsTrue (S.tells sink.old) → AddsPartOf (string_bytes text.old ++ flat_map (event_line scripts.now) events.now) (S.written sink.old) (S.written sink.new) }
     ensures told { S.tells sink.new ≡ S.tells sink.old }
     ensures cause { HasCause (S.faults sink.old) (S.faults sink.new) result }
@@ -55,7 +55,7 @@ fn write_events<S: Sink>(
 }
 
 fn write_acks<S: Sink>(text: &mut String, acks: &[Ack], sink: &mut S) -> Result<(), Fault>
-    ensures all { OnOk result (IsTrue (S.tells sink.old) → Gathers (S.written sink.old) (string_bytes text.old) (S.written sink.new) (string_bytes text.new) (flat_map ack_line acks.now)) }
+    ensures all { OnOk result (IsTrue (S.tells sink.old) → GathersText (S.written sink.old) (string_bytes text.old) (S.written sink.new) (string_bytes text.new) (flat_map ack_line acks.now)) }
     ensures part { IsTrue (S.tells sink.old) → AddsPartOf (string_bytes text.old ++ flat_map ack_line acks.now) (S.written sink.old) (S.written sink.new) }
     ensures told { S.tells sink.new ≡ S.tells sink.old }
     ensures cause { HasCause (S.faults sink.old) (S.faults sink.new) result }

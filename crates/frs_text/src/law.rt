@@ -2,7 +2,7 @@
 ghost use Rattle.std.specs.Prelude.{◌≡◌, ℕ, List, map, IsTrue};
 ghost use Rattle.std.specs.List.{list_all};
 ghost use Rattle.frs_types.specs.Records.{Log};
-ghost use Rattle.frs_segment.specs.Segments.{Image, Segment};
+ghost use Rattle.frs_segment.specs.Segments.{FileList, WholeSegment};
 ghost use Rattle.frs_recovery.specs.declared.recovered.Recovered.{Recovered};
 ghost use Rattle.frs_recovery.specs.Answers.{IsRecovered};
 ghost use Rattle.frs_types.specs.Maps.{Maps};
@@ -15,7 +15,7 @@ ghost use Rattle.frs_text.specs.Text.{Text, line, transcript, stat_of, stat_foun
 
 /// The numbers of a store as it was read back are those of the log that its files spell.
 pub fn stat_of_store()
-    ensures { (image : Image) (segments : List Segment) (log : Log) (r : Recovered) → IsRecovered image segments log r → stat_found r ≡ stat_of segments log }
+    ensures { (image : FileList) (segments : List WholeSegment) (log : Log) (r : Recovered) → IsRecovered image segments log r → stat_found r ≡ stat_of segments log }
 {}
 
 /// A text is the transcript of one history at most. Where two legal histories of the same scripts have the same

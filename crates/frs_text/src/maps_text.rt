@@ -8,9 +8,9 @@ ghost use Rattle.frs_types.specs.Maps.{place_cmp, same_place};
 ghost use Rattle.frs_types.specs.Survivors.{maps_of};
 ghost use Rattle.frs_disk.specs.Disk.{HasCause};
 ghost use Rattle.frs_disk.specs.Outside.{AddsPartOf};
-ghost use Rattle.frs_recovery.specs.Answers.{place_of};
+ghost use Rattle.frs_recovery.specs.Answers.{place_of_entry};
 ghost use Rattle.frs_text.specs.Rows.{pair_of, pairs_of, row_line};
-ghost use Rattle.frs_text.specs.Sinks.{Gathers};
+ghost use Rattle.frs_text.specs.Sinks.{GathersText};
 ghost use Rattle.frs_text.specs.Text as text_of;
 ghost use Rattle.frs_text.specs.Text.{entry_line};
 
@@ -23,7 +23,7 @@ use std::cmp::Ordering;
 
 // By the bytes of the id, and then by those of the key.
 fn by_place(a: &Entry, b: &Entry) -> Ordering
-    ensures { result ≡ place_cmp (place_of a.now) (place_of b.now) }
+    ensures { result ≡ place_cmp (place_of_entry a.now) (place_of_entry b.now) }
 {
     a.id.bytes()
         .cmp(b.id.bytes())
@@ -39,7 +39,7 @@ fn references(alloc: Global, entries: &[Entry]) -> Result<Vec<&Entry>, NoMemory>
 
 // The entries in the order of their places.
 fn in_order(alloc: Global, entries: &[Entry]) -> Result<Vec<&Entry>, NoMemory>
-    requires { IsDistinct same_place (map place_of entries.now) }
+    requires { IsDistinct same_place (map place_of_entry entries.now) }
     ensures pairs { IfOk result (λ rows. pairs_of rows.items ≡ maps_of entries.now) }
     ensures lines { IfOk result (λ rows. flat_map row_line rows.items ≡ text_of.dump (maps_of entries.now)) }
 {
@@ -59,7 +59,7 @@ fn push_entry(text: &mut String, entry: &Entry) -> Result<(), NoMemory>
 }
 
 fn write_entry<S: Sink>(text: &mut String, entry: &Entry, sink: &mut S) -> Result<(), Fault>
-    ensures all { OnOk result (IsTrue (S.tells sink.old) → Gathers (S.written sink.old) (string_bytes text.old) (S.written sink.new) (string_bytes text.new) (entry_line (pair_of entry.now))) }
+    ensures all { OnOk result (IsTrue (S.tells sink.old) → GathersText (S.written sink.old) (string_bytes text.old) (S.written sink.new) (string_bytes text.new) (entry_line (pair_of entry.now))) }
     ensures part { IsTrue (S.tells sink.old) → AddsPartOf (string_bytes text.old ++ entry_line (pair_of entry.now)) (S.written sink.old) (S.written sink.new) }
     ensures told { S.tells sink.new ≡ S.tells sink.old }
     ensures cause { HasCause (S.faults sink.old) (S.faults sink.new) result }
@@ -69,7 +69,7 @@ fn write_entry<S: Sink>(text: &mut String, entry: &Entry, sink: &mut S) -> Resul
 }
 
 fn write_entries<S: Sink>(text: &mut String, rows: &[&Entry], sink: &mut S) -> Result<(), Fault>
-    ensures all { OnOk result (IsTrue (S.tells sink.old) → Gathers (S.written sink.old) (string_bytes text.old) (S.written sink.new) (string_bytes text.new) (flat_map row_line rows.now)) }
+    ensures all { OnOk result (IsTrue (S.tells sink.old) → GathersText (S.written sink.old) (string_bytes text.old) (S.written sink.new) (string_bytes text.new) (flat_map row_line rows.now)) }
     ensures part { IsTrue (S.tells sink.old) → AddsPartOf (string_bytes text.old ++ flat_map row_line rows.now) (S.written sink.old) (S.written sink.new) }
     ensures told { S.tells sink.new ≡ S.tells sink.old }
     ensures cause { HasCause (S.faults sink.old) (S.faults sink.new) result }
@@ -95,7 +95,7 @@ fn write_rows<S: Sink>(alloc: Global, rows: &[&Entry], sink: &mut S) -> Result<(
 /// Writes a line `ID KEY VALUE` for each of the entries, in the byte order of id and then key. No two of the entries may
 /// have the same id and key. A fault of the sink, or want of memory, leaves a front of that text written.
 pub fn dump<S: Sink>(alloc: Global, entries: &[Entry], sink: &mut S) -> Result<(), Fault>
-    requires { IsDistinct same_place (map place_of entries.now) }
+    requires { IsDistinct same_place (map place_of_entry entries.now) }
     ensures all { OnOk result (IsTrue (S.tells sink.old) → S.written sink.new ≡ S.written sink.old ++ text_of.dump (maps_of entries.now)) }
     ensures part { IsTrue (S.tells sink.old) → AddsPartOf (text_of.dump (maps_of entries.now)) (S.written sink.old) (S.written sink.new) }
     ensures told { S.tells sink.new ≡ S.tells sink.old }

@@ -3,7 +3,7 @@ ghost use Rattle.std.specs.Prelude.{◌≡◌, [], OnOk, IsTrue};
 ghost use Rattle.std.specs.String.{string_bytes};
 ghost use Rattle.frs_disk.specs.Disk.{HasCause};
 ghost use Rattle.frs_disk.specs.Outside.{AddsPartOf};
-ghost use Rattle.frs_text.specs.Sinks.{Gathers};
+ghost use Rattle.frs_text.specs.Sinks.{GathersText};
 
 use frs_disk::{Fault, Sink};
 
@@ -12,7 +12,7 @@ const PIECE: usize = 65_536;
 
 // Hands what is gathered to the sink.
 pub(crate) fn write_gathered<S: Sink>(text: &mut String, sink: &mut S) -> Result<(), Fault>
-    ensures all { OnOk result (IsTrue (S.tells sink.old) → Gathers (S.written sink.old) (string_bytes text.old) (S.written sink.new) (string_bytes text.new) []) }
+    ensures all { OnOk result (IsTrue (S.tells sink.old) → GathersText (S.written sink.old) (string_bytes text.old) (S.written sink.new) (string_bytes text.new) []) }
     ensures part { IsTrue (S.tells sink.old) → AddsPartOf (string_bytes text.old) (S.written sink.old) (S.written sink.new) }
     ensures told { S.tells sink.new ≡ S.tells sink.old }
     ensures cause { HasCause (S.faults sink.old) (S.faults sink.new) result }
@@ -28,7 +28,7 @@ pub(crate) fn write_gathered<S: Sink>(text: &mut String, sink: &mut S) -> Result
 
 // Hands what is gathered to the sink, where it is enough for a piece.
 pub(crate) fn write_full<S: Sink>(text: &mut String, sink: &mut S) -> Result<(), Fault>
-    ensures all { OnOk result (IsTrue (S.tells sink.old) → Gathers (S.written sink.old) (string_bytes text.old) (S.written sink.new) (string_bytes text.new) []) }
+    ensures all { OnOk result (IsTrue (S.tells sink.old) → GathersText (S.written sink.old) (string_bytes text.old) (S.written sink.new) (string_bytes text.new) []) }
     ensures part { IsTrue (S.tells sink.old) → AddsPartOf (string_bytes text.old) (S.written sink.old) (S.written sink.new) }
     ensures told { S.tells sink.new ≡ S.tells sink.old }
     ensures cause { HasCause (S.faults sink.old) (S.faults sink.new) result }

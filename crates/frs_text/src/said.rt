@@ -2,7 +2,7 @@
 ghost use Rattle.std.specs.Prelude.{◌≡◌, ◌≤◌, length, IfOk, option_and_then};
 ghost use Rattle.std.specs.List.{list_all};
 ghost use Rattle.frs_text.specs.Scripts.{words_of, is_allowed, is_comment, says, said, one, two, three, put_words, remove_words, get_words, delete_word, begin_of, alone, command_of};
-ghost use Rattle.frs_text.specs.Reading.{within, seen};
+ghost use Rattle.frs_text.specs.Reading.{within, seen_words};
 ghost use Rattle.frs_text.specs.Scripts.Said.{Says};
 ghost use Rattle.frs_history.specs.declared.command.Command.TheVariants as command;
 
@@ -64,7 +64,7 @@ fn value_of(alloc: Global, bytes: &[u8]) -> Result<Option<Value>, NoMemory>
 fn put_command(alloc: Global, id: &[u8], key: &[u8], value: &[u8]) -> Result<Reading, NoMemory>
     requires id { 1 ≤ length id.now }
     requires key { 1 ≤ length key.now }
-    ensures { IfOk result (λ found. found ≡ seen (Says (command.Put id.now key.now value.now))) }
+    ensures { IfOk result (λ found. found ≡ seen_words (Says (command.Put id.now key.now value.now))) }
 {
     let Some(id) = id_of(alloc, id)? else {
         return Ok(Reading::Long);
@@ -83,7 +83,7 @@ fn put_command(alloc: Global, id: &[u8], key: &[u8], value: &[u8]) -> Result<Rea
 fn remove_command(alloc: Global, id: &[u8], key: &[u8]) -> Result<Reading, NoMemory>
     requires id { 1 ≤ length id.now }
     requires key { 1 ≤ length key.now }
-    ensures { IfOk result (λ found. found ≡ seen (Says (command.Remove id.now key.now))) }
+    ensures { IfOk result (λ found. found ≡ seen_words (Says (command.Remove id.now key.now))) }
 {
     let Some(id) = id_of(alloc, id)? else {
         return Ok(Reading::Long);
@@ -99,7 +99,7 @@ fn remove_command(alloc: Global, id: &[u8], key: &[u8]) -> Result<Reading, NoMem
 fn get_command(alloc: Global, id: &[u8], key: &[u8]) -> Result<Reading, NoMemory>
     requires id { 1 ≤ length id.now }
     requires key { 1 ≤ length key.now }
-    ensures { IfOk result (λ found. found ≡ seen (Says (command.Get id.now key.now))) }
+    ensures { IfOk result (λ found. found ≡ seen_words (Says (command.Get id.now key.now))) }
 {
     let Some(id) = id_of(alloc, id)? else {
         return Ok(Reading::Long);
@@ -114,7 +114,7 @@ fn get_command(alloc: Global, id: &[u8], key: &[u8]) -> Result<Reading, NoMemory
 
 fn delete_command(alloc: Global, id: &[u8]) -> Result<Reading, NoMemory>
     requires { 1 ≤ length id.now }
-    ensures { IfOk result (λ found. found ≡ seen (Says (command.Delete id.now))) }
+    ensures { IfOk result (λ found. found ≡ seen_words (Says (command.Delete id.now))) }
 {
     let Some(id) = id_of(alloc, id)? else {
         return Ok(Reading::Long);
@@ -126,7 +126,7 @@ fn delete_command(alloc: Global, id: &[u8]) -> Result<Reading, NoMemory>
 
 // What follows `put`: ID KEY VALUE.
 fn read_put(alloc: Global, args: &[u8]) -> Result<Reading, NoMemory>
-    ensures { IfOk result (λ found. found ≡ seen (says (option_and_then put_words (three (words_of args.now))))) }
+    ensures { IfOk result (λ found. found ≡ seen_words (says (option_and_then put_words (three (words_of args.now))))) }
 {
     let Some((id, key, value)) = three_words(args) else {
         return Ok(Reading::Wrong);
@@ -145,7 +145,7 @@ fn read_put(alloc: Global, args: &[u8]) -> Result<Reading, NoMemory>
 
 // What follows `remove`: ID KEY.
 fn read_remove(alloc: Global, args: &[u8]) -> Result<Reading, NoMemory>
-    ensures { IfOk result (λ found. found ≡ seen (says (option_and_then remove_words (two (words_of args.now))))) }
+    ensures { IfOk result (λ found. found ≡ seen_words (says (option_and_then remove_words (two (words_of args.now))))) }
 {
     let Some((id, key)) = two_words(args) else {
         return Ok(Reading::Wrong);
@@ -161,7 +161,7 @@ fn read_remove(alloc: Global, args: &[u8]) -> Result<Reading, NoMemory>
 
 // What follows `get`: ID KEY.
 fn read_get(alloc: Global, args: &[u8]) -> Result<Reading, NoMemory>
-    ensures { IfOk result (λ found. found ≡ seen (says (option_and_then get_words (two (words_of args.now))))) }
+    ensures { IfOk result (λ found. found ≡ seen_words (says (option_and_then get_words (two (words_of args.now))))) }
 {
     let Some((id, key)) = two_words(args) else {
         return Ok(Reading::Wrong);
@@ -177,7 +177,7 @@ fn read_get(alloc: Global, args: &[u8]) -> Result<Reading, NoMemory>
 
 // What follows `delete`: ID.
 fn read_delete(alloc: Global, args: &[u8]) -> Result<Reading, NoMemory>
-    ensures { IfOk result (λ found. found ≡ seen (says (option_and_then delete_word (one (words_of args.now))))) }
+    ensures { IfOk result (λ found. found ≡ seen_words (says (option_and_then delete_word (one (words_of args.now))))) }
 {
     let Some(id) = one_word(args) else {
         return Ok(Reading::Wrong);
@@ -190,7 +190,7 @@ fn read_delete(alloc: Global, args: &[u8]) -> Result<Reading, NoMemory>
 
 // What follows `begin`: nothing, or `async`.
 fn read_begin(args: &[u8]) -> Reading
-    ensures { result ≡ seen (says (begin_of (words_of args.now))) }
+    ensures { result ≡ seen_words (says (begin_of (words_of args.now))) }
 {
     let Some((mode, rest)) = next_word(args) else {
         return Reading::Found {
@@ -207,7 +207,7 @@ fn read_begin(args: &[u8]) -> Reading
 
 // A command that no words follow.
 fn read_commit(args: &[u8]) -> Reading
-    ensures { result ≡ seen (says (alone command.Commit (words_of args.now))) }
+    ensures { result ≡ seen_words (says (alone command.Commit (words_of args.now))) }
 {
     if next_word(args).is_some() {
         return Reading::Wrong;
@@ -218,7 +218,7 @@ fn read_commit(args: &[u8]) -> Reading
 }
 
 fn read_snapshot(args: &[u8]) -> Reading
-    ensures { result ≡ seen (says (alone command.Snapshot (words_of args.now))) }
+    ensures { result ≡ seen_words (says (alone command.Snapshot (words_of args.now))) }
 {
     if next_word(args).is_some() {
         return Reading::Wrong;
@@ -230,7 +230,7 @@ fn read_snapshot(args: &[u8]) -> Reading
 
 // The command with this name.
 fn read_command(alloc: Global, name: &[u8], args: &[u8]) -> Result<Reading, NoMemory>
-    ensures { IfOk result (λ found. found ≡ seen (says (command_of name.now (words_of args.now)))) }
+    ensures { IfOk result (λ found. found ≡ seen_words (says (command_of name.now (words_of args.now)))) }
 {
     if name == b"begin".as_slice() {
         Ok(read_begin(args))
@@ -271,7 +271,7 @@ fn begins_comment(word: &[u8]) -> bool
 
 /// What a line says.
 pub(crate) fn read_line(alloc: Global, line: &[u8]) -> Result<Reading, NoMemory>
-    ensures { IfOk result (λ found. found ≡ seen (said line.now)) }
+    ensures { IfOk result (λ found. found ≡ seen_words (said line.now)) }
 {
     let Some((name, args)) = next_word(line) else {
         return Ok(Reading::Nothing);

@@ -46,8 +46,8 @@ kind_allows n Mark tx named = (tx == 0) && (named == 0)
 kind_allows n Abandon tx named = nat_lt 0 tx && nat_lt tx n && (named == 0)
 
 -- the record may stand at the LSN n
-abbrev pub allowed : ℕ → Record → Bool
-allowed n r = kind_allows n r.action r.tx r.named && nat_lt r.named n && nat_lt 0 r.lowest && nat_le r.lowest n && has_words r.action
+abbrev pub is_allowed : ℕ → Record → Bool
+is_allowed n r = kind_allows n r.action r.tx r.named && nat_lt r.named n && nat_lt 0 r.lowest && nat_le r.lowest n && has_words r.action
 
 -- what a record can hold, whether or not it may stand in a log: each number fits its type, and each word its limit
 pub record Fits (r : Record) : Type 0 where
@@ -86,25 +86,25 @@ pub record Numbered : Type 0 where
   pub lsn : ℕ
   pub what : Record
 
-abbrev pub numbered_from : ℕ → List Record → List Numbered
-numbered_from n [] = []
-numbered_from n (r ∷ rs) = record { lsn = n; what = r } ∷ numbered_from (n + 1) rs
+abbrev pub numbered_records_from : ℕ → List Record → List Numbered
+numbered_records_from n [] = []
+numbered_records_from n (r ∷ rs) = record { lsn = n; what = r } ∷ numbered_records_from (n + 1) rs
 
-abbrev pub numbered : Log → List Numbered
-numbered log = numbered_from log.first log.records
+abbrev pub numbered_records : Log → List Numbered
+numbered_records log = numbered_records_from log.first log.records
 
 -- from the LSN n on each record may stand in its place
-abbrev pub allowed_from : ℕ → List Record → Bool
-allowed_from n [] = true
-allowed_from n (r ∷ rs) = allowed n r && allowed_from (n + 1) rs
+abbrev pub are_allowed_from : ℕ → List Record → Bool
+are_allowed_from n [] = true
+are_allowed_from n (r ∷ rs) = is_allowed n r && are_allowed_from (n + 1) rs
 
 -- and besides their lowest never falls, from low on
-abbrev pub placed_from : ℕ → ℕ → List Record → Bool
-placed_from low n [] = true
-placed_from low n (r ∷ rs) = allowed n r && nat_le low r.lowest && placed_from r.lowest (n + 1) rs
+abbrev pub are_placed_from : ℕ → ℕ → List Record → Bool
+are_placed_from low n [] = true
+are_placed_from low n (r ∷ rs) = is_allowed n r && nat_le low r.lowest && are_placed_from r.lowest (n + 1) rs
 
-abbrev pub Placed : Log → Type 0
-Placed log = IsTrue (placed_from 0 log.first log.records)
+abbrev pub IsPlaced : Log → Type 0
+IsPlaced log = IsTrue (are_placed_from 0 log.first log.records)
 
 -- the lowest that the newest record names, or 1
 abbrev pub named_lowest : List Record → ℕ

@@ -7,7 +7,7 @@ use Rattle.frs_types.specs.declared.record.Action.{Action}
 use Rattle.frs_types.specs.declared.record.Action.TheVariants.{Put, Delete, Begin, Commit, Compaction, Mark, Abandon}
 use Rattle.frs_types.specs.declared.record.Entry.{Entry}
 use Rattle.frs_types.specs.Maps.{Maps, same_place, place_cmp}
-use Rattle.frs_types.specs.Records.{Log, Numbered, numbered, next_lsn}
+use Rattle.frs_types.specs.Records.{Log, Numbered, numbered_records, next_lsn}
 
 -- ---- tests of one record
 
@@ -23,16 +23,16 @@ abbrev pub is_begin : Action → Bool
 is_begin Begin = true
 is_begin other = false
 
-abbrev pub deletes : List ℕ → Action → Bool
-deletes id (Delete other) = bytes_eq id other
-deletes id other = false
+abbrev pub is_delete_of : List ℕ → Action → Bool
+is_delete_of id (Delete other) = bytes_eq id other
+is_delete_of id other = false
 
 -- the action, in a record of that transaction, ends the transaction tx
-abbrev pub ends_by : ℕ → ℕ → Action → Bool
-ends_by tx its Commit = its == tx
-ends_by tx its Abandon = its == tx
-ends_by tx its Mark = true
-ends_by tx its other = false
+abbrev pub is_ended_by : ℕ → ℕ → Action → Bool
+is_ended_by tx its Commit = its == tx
+is_ended_by tx its Abandon = its == tx
+is_ended_by tx its Mark = true
+is_ended_by tx its other = false
 
 -- the entry that a put or a compaction with this LSN makes
 abbrev pub entry_by : ℕ → Action → Option Entry
@@ -48,9 +48,9 @@ committed q later =
     is_compaction q.what.action || (q.what.tx == 0) || list_any (λ (l : Numbered). is_commit l.what.action && (l.what.tx == q.what.tx)) later
 
 -- the committed records among these, oldest first
-abbrev pub committed_of : List Numbered → List Numbered
-committed_of [] = []
-committed_of (q ∷ later) = if committed q later then q ∷ committed_of later else committed_of later
+abbrev pub committed_records : List Numbered → List Numbered
+committed_records [] = []
+committed_records (q ∷ later) = if committed q later then q ∷ committed_records later else committed_records later
 
 -- ---- survivors
 
@@ -58,7 +58,7 @@ committed_of (q ∷ later) = if committed q later then q ∷ committed_of later 
 abbrev pub with_entry : Option Entry → List Numbered → List Entry → List Entry
 with_entry None later newer = newer
 with_entry (Some e) later newer =
-    if list_any (λ (l : Numbered). l.what.named == e.lsn) later || list_any (λ (l : Numbered). deletes e.id l.what.action) later
+    if list_any (λ (l : Numbered). l.what.named == e.lsn) later || list_any (λ (l : Numbered). is_delete_of e.id l.what.action) later
     || list_any (λ (n : Entry). same_place (e.id, e.key) (n.id, n.key)) newer
     then newer
     else e ∷ newer
@@ -69,7 +69,7 @@ survivors_of [] = []
 survivors_of (q ∷ later) = with_entry (entry_by q.lsn q.what.action) later (survivors_of later)
 
 abbrev pub survivors : Log → List Entry
-survivors log = survivors_of (committed_of (numbered log))
+survivors log = survivors_of (committed_records (numbered_records log))
 
 -- entries as maps
 abbrev pub maps_of : List Entry → Maps
@@ -81,11 +81,11 @@ maps_of es = fold (λ t (e : Entry). put place_cmp (e.id, e.key) e.value t) [] e
 abbrev pub open_begins : List Numbered → List ℕ
 open_begins [] = []
 open_begins (q ∷ later) =
-    if is_begin q.what.action && not (list_any (λ (l : Numbered). ends_by q.lsn l.what.tx l.what.action) later) then q.lsn ∷ open_begins later else open_begins later
+    if is_begin q.what.action && not (list_any (λ (l : Numbered). is_ended_by q.lsn l.what.tx l.what.action) later) then q.lsn ∷ open_begins later else open_begins later
 
 abbrev pub least : ℕ → List ℕ → ℕ
 least n ns = fold min n ns
 
 -- over the survivors, the open begins and the next LSN
 abbrev pub lowest_of : Log → ℕ
-lowest_of log = least (next_lsn log) (map (λ (e : Entry). e.lsn) (survivors log) ++ open_begins (numbered log))
+lowest_of log = least (next_lsn log) (map (λ (e : Entry). e.lsn) (survivors log) ++ open_begins (numbered_records log))

@@ -13,14 +13,14 @@ use Rattle.frs_disk.proofs.NoFiles.{no_entries}
 use Rattle.frs_frame.specs.Spelling.{spelling}
 use Rattle.frs_segment.specs.Front.{empty_segment}
 use Rattle.frs_segment.specs.declared.layout.Found.{Found}
-use Rattle.frs_segment.specs.declared.layout.Segment.{Segment as Described}
-use Rattle.frs_segment.specs.Segments.{Image as Files, Segment, Spells}
-use Rattle.frs_segment.specs.Scanning.{described}
+use Rattle.frs_segment.specs.declared.layout.Segment.{Segment}
+use Rattle.frs_segment.specs.Segments.{FileList, WholeSegment, Spells}
+use Rattle.frs_segment.specs.Scanning.{places_of_segment}
 use Rattle.frs_segment.specs.Stores.{IsFound, numbers_of}
 use Rattle.frs_slots.specs.Views.{TakerView, next_taken}
 use Rattle.frs_writer.specs.Holds.{IsCounted, IsAtWork, Holds, IsKept}
 use Rattle.frs_writer.specs.Opening.{IsOpening}
-use Rattle.frs_writer.specs.Shown.{Shows, Rests, new_segment}
+use Rattle.frs_writer.specs.Shown.{ShowsLog, Rests, new_segment}
 use Rattle.frs_writer.specs.Writer.{WriterView, IsLog, WasEmpty, IsWellOpened}
 use Rattle.frs_writer.specs.Writing.{HoldsLog}
 use Rattle.frs_writer.proofs.Found.{found_above, found_none_removed, found_half, found_next}
@@ -63,8 +63,8 @@ base_is base log rs none is =
 module _ {D : Type 0} (tells : D → Bool) (reads : D → Image) (may_leave : D → Image → Type 0) (removing : D → ℕ → Type 0) (moment : D → ℕ) (left_since : D → ℕ → Image → Type 0)
     (as_read : (disk : D) → IsTrue (tells disk) → may_leave disk (reads disk)) (counts_now : (disk : D) (t : ℕ) (c : Image) → t ≤ moment disk → may_leave disk c → left_since disk t c)
     (stays_absent : (disk : D) (number : ℕ) (c : Image) → IsTrue (tells disk) → get (reads disk) number ≡ None → (removing disk number → ⊥) → may_leave disk c → get c number ≡ None)
-    (one_log : (files : Files) (log other : Log) → Spells files log → Spells files other → log ≡ other)
-    (old new : D) (found : Found) (found_is : IsTrue (tells old) → (segments : List Segment) × (log : Log) × IsFound (entries (reads old)) segments log found)
+    (one_log : (files : FileList) (log other : Log) → Spells files log → Spells files other → log ≡ other)
+    (old new : D) (found : Found) (found_is : IsTrue (tells old) → (segments : List WholeSegment) × (log : Log) × IsFound (entries (reads old)) segments log found)
     (no_removal : IsTrue (tells old) → NoneRemovedAbove reads removing old) (greatest : found.greatest < 2 ^ 62) (other : found.greatest + 1 ≢ 2 ^ 62) (half : List ℕ) (half_is : half ≡ found.half)
     (taker : TakerView) (begins : (taker.taken ≡ []) × (taker.first ≡ found.next)) (first : ℕ) (first_is : first ≡ next_taken taker) (lsn : (1 ≤ taker.first) × (taker.first < 2 ^ 62))
     (images : IsTrue (tells old) → Within moment left_since old new (IsOpening half (found.greatest + 1) first (may_leave old))) where
@@ -85,7 +85,7 @@ module _ {D : Type 0} (tells : D → Bool) (reads : D → Image) (may_leave : D 
 
   -- ---- images
 
-  module _ (told : IsTrue (tells old)) (segments : List Segment) (base : Log) (is : IsFound (entries (reads old)) segments base found) where
+  module _ (told : IsTrue (tells old)) (segments : List WholeSegment) (base : Log) (is : IsFound (entries (reads old)) segments base found) where
     none_there : (e : Image) → may_leave old e → (q : ℕ) → number ≤ q → get e q ≡ None
     none_there e was q at =
         stays_absent old q e told (found_above (reads old) segments base found is q (omega (arith, at)))
@@ -108,7 +108,7 @@ module _ {D : Type 0} (tells : D → Bool) (reads : D → Image) (may_leave : D 
       -- the first file has the number 1
       at_one : LeftNoFile may_leave old → number ≡ 1
       at_one none =
-          let greatest_none : found.greatest ≡ 0 = is.greatest_is ∙ ap (λ (l : Files). unwrap_or (last_or None (numbers_of l)) 0) (no_entries (reads old) (none (reads old) (as_read old told))) in
+          let greatest_none : found.greatest ≡ 0 = is.greatest_is ∙ ap (λ (l : FileList). unwrap_or (last_or None (numbers_of l)) 0) (no_entries (reads old) (none (reads old) (as_read old told))) in
           omega (arith, greatest_none)
 
       none_before : LeftNoFile may_leave old → (d : Image) → may_leave old d → entries d ≡ []
@@ -117,7 +117,7 @@ module _ {D : Type 0} (tells : D → Bool) (reads : D → Image) (may_leave : D 
       begun_spells : Spells (entries c) base
       begun_spells = opening_spells (reads old) segments base found is (may_leave old) well number first next (omega arith) within low high none_there c (opening c left) (LeftNoFile may_leave old) none_before at_one
 
-      begun_shows : Shows (WasEmpty reads old) (LeftNoFile may_leave old) (entries c) base.first base.records
+      begun_shows : ShowsLog (WasEmpty reads old) (LeftNoFile may_leave old) (entries c) base.first base.records
       begun_shows = shows_as empty_then none_when (opening_shows (reads old) segments base found is (may_leave old) well number first next (omega arith) within low high none_there c (opening c left) (LeftNoFile may_leave old) none_before at_one)
 
       begun_rests : get c number ≡ Some (empty_segment number first) → Rests (WasEmpty reads old) (LeftNoFile may_leave old) (entries c) base.first base.records (new_segment number first)
@@ -135,7 +135,7 @@ module _ {D : Type 0} (tells : D → Bool) (reads : D → Image) (may_leave : D 
       let (segments, base, is) = found_is told in
       let none : Log = record { first = 1; records = [] } in
       shows_whole (entries c) 1 []
-      (subst (λ (l : Log). Shows (WasEmpty reads old) (LeftNoFile may_leave old) (entries c) l.first l.records) (sym (found_log told segments base is none was)) (begun_shows told segments base is well c left)) was
+      (subst (λ (l : Log). ShowsLog (WasEmpty reads old) (LeftNoFile may_leave old) (entries c) l.first l.records) (sym (found_log told segments base is none was)) (begun_shows told segments base is well c left)) was
 
   -- ---- the writer
 
@@ -144,10 +144,10 @@ module _ {D : Type 0} (tells : D → Bool) (reads : D → Image) (may_leave : D 
       (made : IsTrue (tells old) → get (reads new) number ≡ Some (empty_segment number first))
       (others : IsTrue (tells old) → (q : ℕ) → number < q → get (reads old) q ≡ None → get (reads new) q ≡ None)
       (pending : (q : ℕ) → removing new q → removing old q ⊎ Contains half q) where
-    abbrev next_segment : Described
-    next_segment = described (new_segment number first)
+    abbrev next_segment : Segment
+    next_segment = places_of_segment (new_segment number first)
 
-    abbrev view : D → List Described → List ℕ → WriterView D
+    abbrev view : D → List Segment → List ℕ → WriterView D
     view opened segments noted = record { opened = opened; disk = new; taker = taker; kept = None; segments = segments; noted = noted; synced = first - 1; ended = None }
 
     abbrev begun : WriterView D
@@ -190,7 +190,7 @@ module _ {D : Type 0} (tells : D → Bool) (reads : D → Image) (may_leave : D 
               (pending q pends);
         }
 
-    module _ (told : IsTrue (tells old)) (well : IsWellOpened reads may_leave old) (segments : List Segment) (base : Log) (is : IsFound (entries (reads old)) segments base found) where
+    module _ (told : IsTrue (tells old)) (well : IsWellOpened reads may_leave old) (segments : List WholeSegment) (base : Log) (is : IsFound (entries (reads old)) segments base found) where
       all_durable : take (first - 1 + 1 - base.first) base.records ≡ base.records
       all_durable = take_all (first - 1 + 1 - base.first) base.records (omega (arith, low, next, is.next_is))
 
@@ -207,13 +207,13 @@ module _ {D : Type 0} (tells : D → Bool) (reads : D → Image) (may_leave : D 
           first - 1,
           omega arith,
           omega (arith, low, ends_at),
-          subst (Shows (WasEmpty reads old) (LeftNoFile may_leave old) (entries c) base.first) (sym all_durable) (begun_shows told segments base is well c (since c left)),
+          subst (ShowsLog (WasEmpty reads old) (LeftNoFile may_leave old) (entries c) base.first) (sym all_durable) (begun_shows told segments base is well c (since c left)),
         );
         newest = λ fine. (
           new_segment number first,
           (λ c left. subst (λ (rs : List Record). Rests (WasEmpty reads old) (LeftNoFile may_leave old) (entries c) base.first rs (new_segment number first)) (sym all_durable)
               (begun_rests told segments base is well c (since c left) (durable c left ∙ made told))),
-          (segments, ap (λ (l : List Described). l ++ next_segment ∷ []) is.segments_are ∙ sym (map-append described segments (new_segment number first ∷ []))),
+          (segments, ap (λ (l : List Segment). l ++ next_segment ∷ []) is.segments_are ∙ sym (map-append places_of_segment segments (new_segment number first ∷ []))),
         );
       }
 
@@ -243,10 +243,10 @@ module _ {D : Type 0} (tells : D → Bool) (reads : D → Image) (may_leave : D 
     }
 
     -- all of it, as it stands in memory
-    pub kept_begun : (opened : D) (segments : List Described) (noted : List ℕ) → opened ≡ old → (segments ≡ found.segments ++ described (new_segment number found.next) ∷ []) × (noted ≡ replicate clients 0)
+    pub kept_begun : (opened : D) (segments : List Segment) (noted : List ℕ) → opened ≡ old → (segments ≡ found.segments ++ places_of_segment (new_segment number found.next) ∷ []) × (noted ≡ replicate clients 0)
         → IsKept tells reads may_leave removing (view opened segments noted)
     kept_begun opened segments noted same_disk (same_segments, same_noted) =
-        let with_next : segments ≡ found.segments ++ next_segment ∷ [] = same_segments ∙ ap (λ (n : ℕ). found.segments ++ described (new_segment number n) ∷ []) (sym next) in
+        let with_next : segments ≡ found.segments ++ next_segment ∷ [] = same_segments ∙ ap (λ (n : ℕ). found.segments ++ places_of_segment (new_segment number n) ∷ []) (sym next) in
         subst (λ (o : D). IsKept tells reads may_leave removing (view o segments noted)) (sym same_disk)
-        (subst (λ (l : List Described). IsKept tells reads may_leave removing (view old l noted)) (sym with_next)
+        (subst (λ (l : List Segment). IsKept tells reads may_leave removing (view old l noted)) (sym with_next)
         (subst (λ (ns : List ℕ). IsKept tells reads may_leave removing (view old (found.segments ++ next_segment ∷ []) ns)) (sym same_noted) begun_kept))

@@ -10,16 +10,16 @@ use Rattle.std.specs.FinMap.Entries.{find}
 use Rattle.frs_types.specs.Records.{Log, next_lsn, named_lowest}
 use Rattle.frs_disk.specs.Disk.{Image}
 use Rattle.frs_segment.specs.declared.layout.Found.{Found}
-use Rattle.frs_segment.specs.Segments.{File, Segment, is_open}
+use Rattle.frs_segment.specs.Segments.{File, WholeSegment, is_open_file}
 use Rattle.frs_segment.specs.Stores.{IsFound, is_below}
 use Rattle.frs_writer.proofs.Showing.{base_lowest}
 use Rattle.frs_writer.proofs.Files.{sorted_kept, rising_numbers, all_there, at_most_last}
 
 -- half-made, and not below the segments
-abbrev pub is_half : List Segment → File → Bool
-is_half segments f = not (is_open f) && not (is_below segments f)
+abbrev pub is_half : List WholeSegment → File → Bool
+is_half segments f = not (is_open_file f) && not (is_below segments f)
 
-module _ (a : Image) (segments : List Segment) (log : Log) (found : Found) (is : IsFound (entries a) segments log found) where
+module _ (a : Image) (segments : List WholeSegment) (log : Log) (found : Found) (is : IsFound (entries a) segments log found) where
   at_most : (q : ℕ) → IsSome (find nat_cmp q (entries a)) → q ≤ found.greatest
   at_most q some = subst (λ (n : ℕ). q ≤ n) (sym is.greatest_is) (at_most_last None (entries a) (entries_sorted a) q some)
 

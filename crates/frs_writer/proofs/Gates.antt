@@ -3,7 +3,7 @@ use Rattle.std.proofs.Common.{◌≡◌, ◌≢◌, ◌⊎◌, inl, inr, ℕ, �
 use Rattle.std.specs.Prelude.{slice_set, unwrap_or}
 use Rattle.std.proofs.lemmas.Bool.{cases_eq}
 use Rattle.std.proofs.lemmas.List.{take_all, take_at, drop_all, append-nil, set_at}
-use Rattle.frs_disk.specs.Disk.{overwritten}
+use Rattle.frs_disk.specs.Disk.{bytes_after_write}
 use Rattle.frs_segment.specs.Front.{HasAnyGate}
 use Rattle.frs_writer.specs.Appending.{IsShut}
 use Rattle.frs_writer.specs.Appending.{IsAtGate}
@@ -20,7 +20,7 @@ shut front gate body other =
     (gate, other, ap (take (length front + 1)) (sym (append_assoc front (gate ∷ []) body)) ∙ take_at (front ++ gate ∷ []) body (length front + 1) (length-append front (gate ∷ [])))
 
 module _ (front : List ℕ) (gate_at : ℕ) (size : length front ≡ gate_at) where
-  pub put_bytes : (body bytes : List ℕ) → bytes ≡ front ++ 0 ∷ [] → overwritten (gate_at + 1) body bytes ≡ front ++ 0 ∷ body
+  pub put_bytes : (body bytes : List ℕ) → bytes ≡ front ++ 0 ∷ [] → bytes_after_write (gate_at + 1) body bytes ≡ front ++ 0 ∷ body
   put_bytes body bytes is =
       let long : length bytes ≡ gate_at + 1 = ap length is ∙ omega (arith, length-append front (0 ∷ []), size) in
       ap (λ (l : List ℕ). l ++ body ++ drop (gate_at + 1 + length body) bytes) (take_all (gate_at + 1) bytes (omega (arith, long)))

@@ -7,16 +7,16 @@ use Rattle.std.proofs.lemmas.Grind.{flat_map-append}
 use Rattle.frs_slots.specs.Views.{TakerView, next_taken}
 use Rattle.frs_writer.specs.Appending.{head_of, sealed}
 use Rattle.frs_writer.specs.Chunk.{ChunkView}
-use Rattle.frs_writer.specs.Groups.{joined, IsTooLong, Gathered, Gathers, HasGroup, Added, Stopped}
+use Rattle.frs_writer.specs.Groups.{joined_records, IsTooLong, Gathered, GathersGroup, HasGroup, Added, Stopped}
 
-joined-push : (group : List (List ℕ)) (b : List ℕ) → joined (group ++ b ∷ []) ≡ joined group ++ b
-joined-push group b = flat_map-append (λ (x : List ℕ). x) group (b ∷ []) ∙ ap (λ (l : List ℕ). joined group ++ l) (append-nil b)
+joined-push : (group : List (List ℕ)) (b : List ℕ) → joined_records (group ++ b ∷ []) ≡ joined_records group ++ b
+joined-push group b = flat_map-append (λ (x : List ℕ). x) group (b ∷ []) ∙ ap (λ (l : List ℕ). joined_records group ++ l) (append-nil b)
 
 -- the chunk's bytes are the head and the records
-long : (chunk : ChunkView) (group : List (List ℕ)) → HasGroup chunk group → length chunk.bytes ≡ 16 + length (joined group)
-long chunk group has = ap (λ (c : ChunkView). length c.bytes) has ∙ length-append (replicate 16 0) (joined group)
+long : (chunk : ChunkView) (group : List (List ℕ)) → HasGroup chunk group → length chunk.bytes ≡ 16 + length (joined_records group)
+long chunk group has = ap (λ (c : ChunkView). length c.bytes) has ∙ length-append (replicate 16 0) (joined_records group)
 
-pub in_chunk : (chunk : ChunkView) (group : List (List ℕ)) → HasGroup chunk group → length (joined group) ≤ 2 ^ 20 → length group < 256
+pub in_chunk : (chunk : ChunkView) (group : List (List ℕ)) → HasGroup chunk group → length (joined_records group) ≤ 2 ^ 20 → length group < 256
     → (16 ≤ length chunk.bytes) × (length chunk.bytes ≤ 1048592) × (chunk.count < 256)
 in_chunk chunk group has fits few = (omega (arith, long chunk group has), omega (arith, long chunk group has, fits), omega (arith, ap (λ (c : ChunkView). c.count) has, few))
 
@@ -47,14 +47,14 @@ module _ (before t now : TakerView) (kept : Option (List ℕ)) (chunk after : Ch
           taken = so_far.taken ++ a.bytes ∷ [];
           taken_are = taken;
           group_is = ap (λ (l : List (List ℕ)). l ++ a.bytes ∷ []) so_far.group_is ∙ append_assoc (option_to_list kept) so_far.taken (a.bytes ∷ []);
-          fits = omega (arith, a.fits, long chunk group has, ap length (joined-push group a.bytes), length-append (joined group) a.bytes);
+          fits = omega (arith, a.fits, long chunk group has, ap length (joined-push group a.bytes), length-append (joined_records group) a.bytes);
         },
         a.added ∙ ap (λ (c : ChunkView). record { count = c.count + 1; bytes = c.bytes ++ a.bytes }) has
-            ∙ ap (λ (n : ℕ). record { count = n; bytes = (replicate 16 0 ++ joined group) ++ a.bytes }) (sym (length-append group (a.bytes ∷ [])))
-            ∙ ap (λ (b : List ℕ). record { count = length (group ++ a.bytes ∷ []); bytes = b }) (append_assoc (replicate 16 0) (joined group) a.bytes ∙ ap (λ (b : List ℕ). replicate 16 0 ++ b) (sym (joined-push group a.bytes))),
+            ∙ ap (λ (n : ℕ). record { count = n; bytes = (replicate 16 0 ++ joined_records group) ++ a.bytes }) (sym (length-append group (a.bytes ∷ [])))
+            ∙ ap (λ (b : List ℕ). record { count = length (group ++ a.bytes ∷ []); bytes = b }) (append_assoc (replicate 16 0) (joined_records group) a.bytes ∙ ap (λ (b : List ℕ). replicate 16 0 ++ b) (sym (joined-push group a.bytes))),
       )
 
-  pub no_more : (limit : ℕ) (still : Option (List ℕ)) → length group ≤ limit → Stopped t now still chunk after → Gathers limit before now kept still group × HasGroup after group
+  pub no_more : (limit : ℕ) (still : Option (List ℕ)) → length group ≤ limit → Stopped t now still chunk after → GathersGroup limit before now kept still group × HasGroup after group
   no_more limit still most s = ⊎_elim
       (λ n. let same : now ≡ t = n.1 in (
         record {
@@ -94,7 +94,7 @@ module _ (before t now : TakerView) (kept : Option (List ℕ)) (chunk after : Ch
       some_none : (b : List ℕ) → Some b ≡ None → ⊥
       some_none b is = cc
 
-  pub at_limit : (limit : ℕ) → length group ≡ limit → Gathers limit before t kept None group
+  pub at_limit : (limit : ℕ) → length group ≡ limit → GathersGroup limit before t kept None group
   at_limit limit most = record {
     ring = so_far.ring;
     known = so_far.known;
@@ -140,7 +140,7 @@ without_kept before kept chunk after is empty same = record {
 }
 
 -- where nothing is in the chunk nothing was taken or kept
-pub nothing_gathered : (limit : ℕ) (before now : TakerView) (kept still : Option (List ℕ)) (group : List (List ℕ)) → Gathers limit before now kept still group → length group ≡ 0
+pub nothing_gathered : (limit : ℕ) (before now : TakerView) (kept still : Option (List ℕ)) (group : List (List ℕ)) → GathersGroup limit before now kept still group → length group ≡ 0
     → (kept ≡ None) × (still ≡ None) × (now.taken ≡ before.taken)
 nothing_gathered limit before now kept None [] g none = let (empty, same) = at kept g.taken g.group_is g.taken_are in (empty, refl, same)
   where
@@ -153,10 +153,10 @@ nothing_gathered limit before now kept still (b ∷ group) g none = absurd (omeg
 
 -- the bytes of a chunk that was sealed
 pub sealed_bytes : (first : ℕ) (chunk : ChunkView) (group : List (List ℕ)) → HasGroup chunk group
-    → head_of (length chunk.bytes - 16) chunk.count first ++ drop 16 chunk.bytes ++ 0 ∷ [] ≡ sealed first (length group) (joined group)
+    → head_of (length chunk.bytes - 16) chunk.count first ++ drop 16 chunk.bytes ++ 0 ∷ [] ≡ sealed first (length group) (joined_records group)
 sealed_bytes first chunk group has =
     ap (λ (c : ChunkView). head_of (length c.bytes - 16) c.count first ++ drop 16 c.bytes ++ 0 ∷ []) has
-    ∙ ap (λ (n : ℕ). head_of n (length group) first ++ joined group ++ 0 ∷ []) (omega (arith, length-append (replicate 16 0) (joined group)))
+    ∙ ap (λ (n : ℕ). head_of n (length group) first ++ joined_records group ++ 0 ∷ []) (omega (arith, length-append (replicate 16 0) (joined_records group)))
 
-pub body_is : (chunk : ChunkView) (group : List (List ℕ)) → HasGroup chunk group → length chunk.bytes - 16 ≡ length (joined group)
+pub body_is : (chunk : ChunkView) (group : List (List ℕ)) → HasGroup chunk group → length chunk.bytes - 16 ≡ length (joined_records group)
 body_is chunk group has = omega (arith, long chunk group has)

@@ -4,16 +4,16 @@ use Rattle.std.specs.Option.{option_to_list}
 use Rattle.std.proofs.lemmas.List.{map-append}
 use Rattle.std.specs.FinMap.{entries, get}
 use Rattle.frs_types.specs.declared.record.Record.{Record}
-use Rattle.frs_types.specs.Records.{Log, Placed, next_lsn}
+use Rattle.frs_types.specs.Records.{Log, IsPlaced, next_lsn}
 use Rattle.frs_disk.specs.Disk.{Image, AgreesElsewhere, IsSynced, Within, bytes_at, LeftNoFile}
-use Rattle.frs_segment.specs.declared.layout.Segment.{Segment as Described}
-use Rattle.frs_segment.specs.Segments.{Segment, segment_spelling, body, is_chunk, end_of}
-use Rattle.frs_segment.specs.Scanning.{described}
+use Rattle.frs_segment.specs.declared.layout.Segment.{Segment}
+use Rattle.frs_segment.specs.Segments.{WholeSegment, segment_spelling, body, is_chunk, end_of}
+use Rattle.frs_segment.specs.Scanning.{places_of_segment}
 use Rattle.frs_slots.specs.Views.{next_taken}
 use Rattle.frs_writer.specs.Appending.{IsShut, sealed}
-use Rattle.frs_writer.specs.Groups.{joined}
+use Rattle.frs_writer.specs.Groups.{joined_records}
 use Rattle.frs_writer.specs.Holds.{IsCounted, ShowsFrom, durable_of, IsKept}
-use Rattle.frs_writer.specs.Shown.{Shows, Rests, with_chunk}
+use Rattle.frs_writer.specs.Shown.{ShowsLog, Rests, with_chunk}
 use Rattle.frs_writer.specs.Writer.{WriterView, IsLog, WasEmpty, IsWellOpened}
 use Rattle.frs_writer.specs.Places.{grown, with_newest_grown}
 use Rattle.frs_writer.proofs.Keeping.{Grouping, grouping, placed_before, durable_is, behind_is, grown_is, group_within, group_chunk, group_long, sealed_is, newest_is, front_read, first_is}
@@ -28,16 +28,16 @@ module _ {D : Type 0} (tells : D → Bool) (reads : D → Image) (may_leave : D 
   pub record Behind (w w' : WriterView D) (counted : IsCounted w) (group : List (List ℕ)) (log' : Log) : Type 0 where
     pub g : Grouping reads w w' group log'
     pub next : next_lsn g.log ≡ next_taken w.taker
-    pub last : Segment
+    pub last : WholeSegment
     pub rest : (c : Image) → may_leave w.disk c → Rests (WasEmpty reads w.opened) (LeftNoFile may_leave w.opened) (entries c) log'.first g.front last
-    pub newest : counted.newest ≡ described last
-    pub before : List Segment
-    pub segments : w.segments ≡ map described (before ++ last ∷ [])
+    pub newest : counted.newest ≡ places_of_segment last
+    pub before : List WholeSegment
+    pub segments : w.segments ≡ map places_of_segment (before ++ last ∷ [])
 
   pub behind : (w w' : WriterView D) (kept : IsKept tells reads may_leave removing w) (group more : List (List ℕ)) (still : Option (List ℕ)) (log' : Log)
       → w.ended ≡ None → IsTrue (tells w.disk) → IsWellOpened reads may_leave w.opened
       → w'.opened ≡ w.opened → w'.taker.taken ≡ w.taker.taken ++ more → group ++ option_to_list still ≡ option_to_list w.kept ++ more
-      → IsLog reads w' log' → Placed log' → Behind w w' kept.counted group log'
+      → IsLog reads w' log' → IsPlaced log' → Behind w w' kept.counted group log'
   behind w w' kept group more still log' fine told well same grows parts is_log placed =
       let g = grouping reads w w' group more still log' (kept.counted.counted fine) same grows parts is_log in
       let held = kept.holds told well g.log g.is_log (placed_before reads w w' group log' g placed) in
@@ -55,33 +55,33 @@ module _ {D : Type 0} (tells : D → Bool) (reads : D → Image) (may_leave : D 
         segments = segments;
       }
 
-  module _ (w w' : WriterView D) (counted : IsCounted w) (group : List (List ℕ)) (log' : Log) (placed : Placed log') (b : Behind w w' counted group log') where
+  module _ (w w' : WriterView D) (counted : IsCounted w) (group : List (List ℕ)) (log' : Log) (placed : IsPlaced log') (b : Behind w w' counted group log') where
     -- an image that shows what was durable
-    pub shows_durable : (c : Image) → Shows (WasEmpty reads w.opened) (LeftNoFile may_leave w.opened) (entries c) log'.first b.g.front → ShowsFrom (WasEmpty reads w.opened) (LeftNoFile may_leave w.opened) w.synced log' (entries c)
+    pub shows_durable : (c : Image) → ShowsLog (WasEmpty reads w.opened) (LeftNoFile may_leave w.opened) (entries c) log'.first b.g.front → ShowsFrom (WasEmpty reads w.opened) (LeftNoFile may_leave w.opened) w.synced log' (entries c)
     shows_durable c shows = (
       w.synced,
       omega arith,
       omega (arith, group_within reads w w' group log' b.g placed b.next),
-      subst (λ (l : List Record). Shows (WasEmpty reads w.opened) (LeftNoFile may_leave w.opened) (entries c) log'.first l) (sym (behind_is reads w w' group log' b.g placed b.next)) shows,
+      subst (λ (l : List Record). ShowsLog (WasEmpty reads w.opened) (LeftNoFile may_leave w.opened) (entries c) log'.first l) (sym (behind_is reads w w' group log' b.g placed b.next)) shows,
     )
 
     -- and one that shows the group too
-    pub shows_grown : (c : Image) → Shows (WasEmpty reads w.opened) (LeftNoFile may_leave w.opened) (entries c) log'.first (b.g.front ++ b.g.rs) → ShowsFrom (WasEmpty reads w.opened) (LeftNoFile may_leave w.opened) (w.synced + length group) log' (entries c)
+    pub shows_grown : (c : Image) → ShowsLog (WasEmpty reads w.opened) (LeftNoFile may_leave w.opened) (entries c) log'.first (b.g.front ++ b.g.rs) → ShowsFrom (WasEmpty reads w.opened) (LeftNoFile may_leave w.opened) (w.synced + length group) log' (entries c)
     shows_grown c shows = (
       w.synced + length group,
       omega arith,
       group_within reads w w' group log' b.g placed b.next,
-      subst (λ (l : List Record). Shows (WasEmpty reads w.opened) (LeftNoFile may_leave w.opened) (entries c) log'.first l) (sym (grown_is reads w w' group log' b.g placed b.next)) shows,
+      subst (λ (l : List Record). ShowsLog (WasEmpty reads w.opened) (LeftNoFile may_leave w.opened) (entries c) log'.first l) (sym (grown_is reads w w' group log' b.g placed b.next)) shows,
     )
 
     pub number_is : counted.newest.number ≡ b.last.number
-    number_is = ap (λ (s : Described). s.number) b.newest
+    number_is = ap (λ (s : Segment). s.number) b.newest
 
     pub ends_is : end_of b.last ≡ w.synced + 1
-    ends_is = sym (ap (λ (s : Described). s.«end») b.newest) ∙ counted.ends
+    ends_is = sym (ap (λ (s : Segment). s.«end») b.newest) ∙ counted.ends
 
     gate_is : counted.newest.length - 1 ≡ length (segment_spelling b.last)
-    gate_is = omega (arith, ap (λ (s : Described). s.length) b.newest)
+    gate_is = omega (arith, ap (λ (s : Segment). s.length) b.newest)
 
     pub front_is : IsTrue (tells w.disk) → take (counted.newest.length - 1) (bytes_at (reads w.disk) counted.newest.number) ≡ segment_spelling b.last
     front_is told =
@@ -89,10 +89,10 @@ module _ {D : Type 0} (tells : D → Bool) (reads : D → Image) (may_leave : D 
         ∙ ap (λ (n : ℕ). take (length (segment_spelling b.last)) (bytes_at (reads w.disk) n)) number_is
         ∙ front_read tells reads may_leave removing as_read w.disk told log'.first b.g.front b.last b.rest
 
-    module _ (some : 1 ≤ length group) (few : length group ≤ 256) (fits : length (joined group) ≤ 2 ^ 20) (within : next_lsn log' ≤ 2 ^ 62) where
+    module _ (some : 1 ≤ length group) (few : length group ≤ 256) (fits : length (joined_records group) ≤ 2 ^ 20) (within : next_lsn log' ≤ 2 ^ 62) where
       -- the file with the whole chunk
       pub whole_rests : (c : Image) → AgreesElsewhere b.last.number (may_leave w.disk) c
-          → get c b.last.number ≡ Some (segment_spelling b.last ++ 1 ∷ sealed (w.synced + 1) (length group) (joined group))
+          → get c b.last.number ≡ Some (segment_spelling b.last ++ 1 ∷ sealed (w.synced + 1) (length group) (joined_records group))
           → Rests (WasEmpty reads w.opened) (LeftNoFile may_leave w.opened) (entries c) log'.first (b.g.front ++ b.g.rs) (with_chunk b.last b.g.rs)
       whole_rests c agrees file =
           let (e, was, same) = agrees in
@@ -105,7 +105,7 @@ module _ {D : Type 0} (tells : D → Bool) (reads : D → Image) (may_leave : D 
       -- at any moment of the write
       pub group_images : IsTrue (tells w.disk) → (d : D) → Within moment left_since w.disk d (AgreesElsewhere counted.newest.number (may_leave w.disk))
           → Within moment left_since w.disk d (λ c. IsShut (take (counted.newest.length - 1) (bytes_at (reads w.disk) counted.newest.number)) (get c counted.newest.number)
-          ⊎ (get c counted.newest.number ≡ Some (take (counted.newest.length - 1) (bytes_at (reads w.disk) counted.newest.number) ++ 1 ∷ sealed (w.synced + 1) (length group) (joined group))))
+          ⊎ (get c counted.newest.number ≡ Some (take (counted.newest.length - 1) (bytes_at (reads w.disk) counted.newest.number) ++ 1 ∷ sealed (w.synced + 1) (length group) (joined_records group))))
           → Within moment left_since w.disk d (λ c. ShowsFrom (WasEmpty reads w.opened) (LeftNoFile may_leave w.opened) w.synced log' (entries c))
       group_images told d elsewhere images c left =
           let agrees : AgreesElsewhere b.last.number (may_leave w.disk) c = subst (λ (n : ℕ). AgreesElsewhere n (may_leave w.disk) c) number_is (elsewhere c left) in
@@ -115,9 +115,9 @@ module _ {D : Type 0} (tells : D → Bool) (reads : D → Image) (may_leave : D 
           let here : IsShut (segment_spelling b.last) (get c b.last.number) = subst (λ (n : ℕ). IsShut (segment_spelling b.last) (get c n)) number_is (subst (λ (l : List ℕ). IsShut l (get c counted.newest.number)) (front_is told) shut) in
           shows_durable c (one_shut log'.first b.g.front b.last e c (b.rest e was) same here))
           (λ whole.
-          let here : get c b.last.number ≡ Some (segment_spelling b.last ++ 1 ∷ sealed (w.synced + 1) (length group) (joined group)) =
-          subst (λ (n : ℕ). get c n ≡ Some (segment_spelling b.last ++ 1 ∷ sealed (w.synced + 1) (length group) (joined group))) number_is
-          (whole ∙ ap (λ (l : List ℕ). Some (l ++ 1 ∷ sealed (w.synced + 1) (length group) (joined group))) (front_is told)) in
+          let here : get c b.last.number ≡ Some (segment_spelling b.last ++ 1 ∷ sealed (w.synced + 1) (length group) (joined_records group)) =
+          subst (λ (n : ℕ). get c n ≡ Some (segment_spelling b.last ++ 1 ∷ sealed (w.synced + 1) (length group) (joined_records group))) number_is
+          (whole ∙ ap (λ (l : List ℕ). Some (l ++ 1 ∷ sealed (w.synced + 1) (length group) (joined_records group))) (front_is told)) in
           let (n, least, most, shows) = shows_grown c (rests_shows (whole_rests c agrees here)) in
           (n, omega (arith, least), most, shows))
           (images c left)
@@ -125,21 +125,21 @@ module _ {D : Type 0} (tells : D → Bool) (reads : D → Image) (may_leave : D 
       -- and afterwards
       pub group_rests : IsTrue (tells w.disk) → (d : D) → ((c : Image) → may_leave d c → left_since d (moment w.disk) c)
           → Within moment left_since w.disk d (AgreesElsewhere counted.newest.number (may_leave w.disk)) → IsSynced reads may_leave d counted.newest.number
-          → get (reads d) counted.newest.number ≡ Some (take (counted.newest.length - 1) (bytes_at (reads w.disk) counted.newest.number) ++ 1 ∷ sealed (w.synced + 1) (length group) (joined group))
+          → get (reads d) counted.newest.number ≡ Some (take (counted.newest.length - 1) (bytes_at (reads w.disk) counted.newest.number) ++ 1 ∷ sealed (w.synced + 1) (length group) (joined_records group))
           → (c : Image) → may_leave d c → Rests (WasEmpty reads w.opened) (LeftNoFile may_leave w.opened) (entries c) log'.first (b.g.front ++ b.g.rs) (with_chunk b.last b.g.rs)
       group_rests told d counts elsewhere durable written c left =
           let agrees : AgreesElsewhere b.last.number (may_leave w.disk) c = subst (λ (n : ℕ). AgreesElsewhere n (may_leave w.disk) c) number_is (elsewhere c (counts c left)) in
-          let whole : get c counted.newest.number ≡ Some (take (counted.newest.length - 1) (bytes_at (reads w.disk) counted.newest.number) ++ 1 ∷ sealed (w.synced + 1) (length group) (joined group)) = durable c left ∙ written in
+          let whole : get c counted.newest.number ≡ Some (take (counted.newest.length - 1) (bytes_at (reads w.disk) counted.newest.number) ++ 1 ∷ sealed (w.synced + 1) (length group) (joined_records group)) = durable c left ∙ written in
           whole_rests c agrees
-          (subst (λ (n : ℕ). get c n ≡ Some (segment_spelling b.last ++ 1 ∷ sealed (w.synced + 1) (length group) (joined group))) number_is
-          (whole ∙ ap (λ (l : List ℕ). Some (l ++ 1 ∷ sealed (w.synced + 1) (length group) (joined group))) (front_is told)))
+          (subst (λ (n : ℕ). get c n ≡ Some (segment_spelling b.last ++ 1 ∷ sealed (w.synced + 1) (length group) (joined_records group))) number_is
+          (whole ∙ ap (λ (l : List ℕ). Some (l ++ 1 ∷ sealed (w.synced + 1) (length group) (joined_records group))) (front_is told)))
 
-      pub segments_grown : with_newest_grown (length group) (length (joined group)) w.segments ≡ map described (b.before ++ with_chunk b.last b.g.rs ∷ [])
+      pub segments_grown : with_newest_grown (length group) (length (joined_records group)) w.segments ≡ map places_of_segment (b.before ++ with_chunk b.last b.g.rs ∷ [])
       segments_grown =
-          let size : length (joined group) ≡ length (body b.g.rs) = ap length (ap joined b.g.group_is ∙ joined_body b.g.rs) in
-          ap (with_newest_grown (length group) (length (joined group))) (b.segments ∙ map-append described b.before (b.last ∷ []))
-          ∙ newest_grown (length group) (length (joined group)) (map described b.before) (described b.last)
-          ∙ ap (λ (n : ℕ). map described b.before ++ grown n (length (joined group)) (described b.last) ∷ []) (sym (group_long reads w w' group log' b.g placed))
-          ∙ ap (λ (n : ℕ). map described b.before ++ grown (length b.g.rs) n (described b.last) ∷ []) size
-          ∙ ap (λ (s : Described). map described b.before ++ s ∷ []) (sym (described_grown b.last b.g.rs))
-          ∙ sym (map-append described b.before (with_chunk b.last b.g.rs ∷ []))
+          let size : length (joined_records group) ≡ length (body b.g.rs) = ap length (ap joined_records b.g.group_is ∙ joined_body b.g.rs) in
+          ap (with_newest_grown (length group) (length (joined_records group))) (b.segments ∙ map-append places_of_segment b.before (b.last ∷ []))
+          ∙ newest_grown (length group) (length (joined_records group)) (map places_of_segment b.before) (places_of_segment b.last)
+          ∙ ap (λ (n : ℕ). map places_of_segment b.before ++ grown n (length (joined_records group)) (places_of_segment b.last) ∷ []) (sym (group_long reads w w' group log' b.g placed))
+          ∙ ap (λ (n : ℕ). map places_of_segment b.before ++ grown (length b.g.rs) n (places_of_segment b.last) ∷ []) size
+          ∙ ap (λ (s : Segment). map places_of_segment b.before ++ s ∷ []) (sym (described_grown b.last b.g.rs))
+          ∙ sym (map-append places_of_segment b.before (with_chunk b.last b.g.rs ∷ []))

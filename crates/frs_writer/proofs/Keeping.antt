@@ -6,14 +6,14 @@ use Rattle.std.proofs.lemmas.Bool.{and_from, le-leb}
 use Rattle.std.proofs.lemmas.List.{length-map, map-append, take_at, take-append-le}
 use Rattle.std.specs.FinMap.{entries, get}
 use Rattle.frs_types.specs.declared.record.Record.{Record}
-use Rattle.frs_types.specs.Records.{Log, Placed, next_lsn, allowed_from}
+use Rattle.frs_types.specs.Records.{Log, IsPlaced, next_lsn, are_allowed_from}
 use Rattle.frs_disk.specs.Disk.{Image, bytes_at}
 use Rattle.frs_frame.specs.Spelling.{spelling}
-use Rattle.frs_segment.specs.Segments.{Segment, Spells, segment_spelling, body, is_chunk}
-use Rattle.frs_segment.specs.Scanning.{described}
+use Rattle.frs_segment.specs.Segments.{WholeSegment, Spells, segment_spelling, body, is_chunk}
+use Rattle.frs_segment.specs.Scanning.{places_of_segment}
 use Rattle.frs_slots.specs.Views.{next_taken}
 use Rattle.frs_writer.specs.Appending.{sealed}
-use Rattle.frs_writer.specs.Groups.{joined}
+use Rattle.frs_writer.specs.Groups.{joined_records}
 use Rattle.frs_writer.specs.Holds.{IsCounted, AreWritten, durable_of}
 use Rattle.frs_writer.specs.Shown.{Rests}
 use Rattle.frs_writer.specs.Writer.{WriterView, IsLog}
@@ -66,12 +66,12 @@ module _ {D : Type 0} (reads : D → Image) where
         more_long = omega (arith, ap length grows, length-append w.taker.taken more, ap length p.back_is, length-map p.back spelling);
       }
 
-  module _ (w w' : WriterView D) (group : List (List ℕ)) (log' : Log) (g : Grouping w w' group log') (placed : Placed log') where
+  module _ (w w' : WriterView D) (group : List (List ℕ)) (log' : Log) (g : Grouping w w' group log') (placed : IsPlaced log') where
     pub first_is : log'.first ≡ g.log.first
     first_is = ap (λ (x : Log). x.first) g.log_is
 
-    pub placed_before : Placed g.log
-    placed_before = placed_less g.log g.more (subst Placed g.log_is placed)
+    pub placed_before : IsPlaced g.log
+    placed_before = placed_less g.log g.more (subst IsPlaced g.log_is placed)
 
     records_are : log'.records ≡ g.log.records ++ g.more
     records_are = ap (λ (x : Log). x.records) g.log_is
@@ -107,33 +107,33 @@ module _ {D : Type 0} (reads : D → Image) where
     group_within next = omega (arith, g.front_long next, first_is, group_long, ap length g.whole, length-append g.front (g.rs ++ g.back), length-append g.rs g.back)
 
     -- the group may stand behind what was durable
-    pub group_chunk : next_lsn g.log ≡ next_taken w.taker → 1 ≤ length group → length group ≤ 256 → length (joined group) ≤ 2 ^ 20 → IsTrue (is_chunk (w.synced + 1) g.rs)
+    pub group_chunk : next_lsn g.log ≡ next_taken w.taker → 1 ≤ length group → length group ≤ 256 → length (joined_records group) ≤ 2 ^ 20 → IsTrue (is_chunk (w.synced + 1) g.rs)
     group_chunk next some few fits =
         let long = g.front_long next in
-        let all : allowed_from log'.first (g.front ++ (g.rs ++ g.back)) ≡ true = subst (λ (x : List Record). allowed_from log'.first x ≡ true) g.whole (placed_allowed 0 log'.first log'.records placed) in
-        let behind : allowed_from (log'.first + length g.front) (g.rs ++ g.back) ≡ true = allowed_back log'.first g.front (g.rs ++ g.back) all in
-        let here : allowed_from (w.synced + 1) g.rs ≡ true = subst (λ (n : ℕ). allowed_from n g.rs ≡ true) (omega (arith, long, first_is)) (allowed_front (log'.first + length g.front) g.rs g.back behind) in
-        let size : length (body g.rs) ≡ length (joined group) = ap length (sym (ap joined g.group_is ∙ joined_body g.rs)) in
+        let all : are_allowed_from log'.first (g.front ++ (g.rs ++ g.back)) ≡ true = subst (λ (x : List Record). are_allowed_from log'.first x ≡ true) g.whole (placed_allowed 0 log'.first log'.records placed) in
+        let behind : are_allowed_from (log'.first + length g.front) (g.rs ++ g.back) ≡ true = allowed_back log'.first g.front (g.rs ++ g.back) all in
+        let here : are_allowed_from (w.synced + 1) g.rs ≡ true = subst (λ (n : ℕ). are_allowed_from n g.rs ≡ true) (omega (arith, long, first_is)) (allowed_front (log'.first + length g.front) g.rs g.back behind) in
+        let size : length (body g.rs) ≡ length (joined_records group) = ap length (sym (ap joined_records g.group_is ∙ joined_body g.rs)) in
         and_from _ _ (and_from _ _ (and_from _ _ (le-leb 1 (length g.rs) (omega (arith, group_long, some))) (le-leb (length g.rs) 256 (omega (arith, group_long, few)))) (le-leb (length (body g.rs)) (2 ^ 20) (omega (arith, size, fits)))) here
 
-    pub sealed_is : sealed (w.synced + 1) (length group) (joined group) ≡ sealed (w.synced + 1) (length g.rs) (body g.rs)
-    sealed_is = ap (λ (n : ℕ). sealed (w.synced + 1) n (joined group)) (sym group_long) ∙ ap (sealed (w.synced + 1) (length g.rs)) (ap joined g.group_is ∙ joined_body g.rs)
+    pub sealed_is : sealed (w.synced + 1) (length group) (joined_records group) ≡ sealed (w.synced + 1) (length g.rs) (body g.rs)
+    sealed_is = ap (λ (n : ℕ). sealed (w.synced + 1) n (joined_records group)) (sym group_long) ∙ ap (sealed (w.synced + 1) (length g.rs)) (ap joined_records g.group_is ∙ joined_body g.rs)
 
 -- ---- the newest file
 
-pub newest_is : {D : Type 0} (w : WriterView D) (counted : IsCounted w) (before : List Segment) (last : Segment) → w.segments ≡ map described (before ++ last ∷ []) → counted.newest ≡ described last
-newest_is w counted before last is = (same_newest counted.older (map described before) counted.newest (described last) (sym counted.segments ∙ is ∙ map-append described before (last ∷ []))).1
+pub newest_is : {D : Type 0} (w : WriterView D) (counted : IsCounted w) (before : List WholeSegment) (last : WholeSegment) → w.segments ≡ map places_of_segment (before ++ last ∷ []) → counted.newest ≡ places_of_segment last
+newest_is w counted before last is = (same_newest counted.older (map places_of_segment before) counted.newest (places_of_segment last) (sym counted.segments ∙ is ∙ map-append places_of_segment before (last ∷ []))).1
 
 module _ {D : Type 0} (tells : D → Bool) (reads : D → Image) (may_leave : D → Image → Type 0) (removing : D → ℕ → Type 0)
     (as_read : (disk : D) → IsTrue (tells disk) → may_leave disk (reads disk)) where
   -- the newest file as it is read
-  pub file_read : {alone fresh : Type 0} (disk : D) (told : IsTrue (tells disk)) (first : ℕ) (records : List Record) (last : Segment) → ((c : Image) → may_leave disk c → Rests alone fresh (entries c) first records last)
+  pub file_read : {alone fresh : Type 0} (disk : D) (told : IsTrue (tells disk)) (first : ℕ) (records : List Record) (last : WholeSegment) → ((c : Image) → may_leave disk c → Rests alone fresh (entries c) first records last)
       → get (reads disk) last.number ≡ Some (segment_spelling last ++ 0 ∷ [])
   file_read disk told first records last rest =
       let r = rest (reads disk) (as_read disk told) in
       last_get (reads disk) r.front last.number (segment_spelling last ++ 0 ∷ []) r.files
 
-  pub front_read : {alone fresh : Type 0} (disk : D) (told : IsTrue (tells disk)) (first : ℕ) (records : List Record) (last : Segment) → ((c : Image) → may_leave disk c → Rests alone fresh (entries c) first records last)
+  pub front_read : {alone fresh : Type 0} (disk : D) (told : IsTrue (tells disk)) (first : ℕ) (records : List Record) (last : WholeSegment) → ((c : Image) → may_leave disk c → Rests alone fresh (entries c) first records last)
       → take (length (segment_spelling last)) (bytes_at (reads disk) last.number) ≡ segment_spelling last
   front_read disk told first records last rest =
       ap (λ (o : Option (List ℕ)). take (length (segment_spelling last)) (unwrap_or o [])) (file_read disk told first records last rest)

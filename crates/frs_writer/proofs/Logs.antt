@@ -2,10 +2,10 @@
 use Rattle.std.proofs.Common.{◌≡◌, ℕ, ◌≤◌, List, [], ◌∷◌, ◌++◌, length, take, map, refl, ◌∙◌, ap}
 use Rattle.std.proofs.lemmas.List.{take-append-le}
 use Rattle.frs_types.specs.declared.record.Record.{Record}
-use Rattle.frs_types.specs.Records.{Log, Placed}
+use Rattle.frs_types.specs.Records.{Log, IsPlaced}
 use Rattle.frs_frame.specs.Spelling.{spelling}
 use Rattle.frs_segment.specs.Segments.{body}
-use Rattle.frs_writer.specs.Groups.{joined}
+use Rattle.frs_writer.specs.Groups.{joined_records}
 use Rattle.frs_writer.proofs.Placing.{placed_front}
 
 -- the parts of a list whose image falls into parts
@@ -25,7 +25,7 @@ part (x ∷ xs) ys (r ∷ rs) is =
     let p = part xs ys rs tail in
     record { front = r ∷ p.front; back = p.back; is = ap (λ (l : List Record). r ∷ l) p.is; front_is = ap (λ (l : List (List ℕ)). x ∷ l) p.front_is ∙ ap (λ (b : List ℕ). b ∷ map spelling p.front) head; back_is = p.back_is }
 
-pub joined_body : (rs : List Record) → joined (map spelling rs) ≡ body rs
+pub joined_body : (rs : List Record) → joined_records (map spelling rs) ≡ body rs
 joined_body [] = refl
 joined_body (r ∷ rs) = ap (λ (b : List ℕ). spelling r ++ b) (joined_body rs)
 
@@ -34,7 +34,7 @@ joined_body (r ∷ rs) = ap (λ (b : List ℕ). spelling r ++ b) (joined_body rs
 abbrev pub with_more : Log → List Record → Log
 with_more log more = record log { records = log.records ++ more }
 
-pub placed_less : (log : Log) (more : List Record) → Placed (with_more log more) → Placed log
+pub placed_less : (log : Log) (more : List Record) → IsPlaced (with_more log more) → IsPlaced log
 placed_less log more placed = placed_front 0 log.first log.records more placed
 
 pub take_more : (k : ℕ) (rs more : List Record) → k ≤ length rs → take k (rs ++ more) ≡ take k rs

@@ -5,16 +5,16 @@ use Rattle.std.proofs.lemmas.Bool.{cases_lt}
 use Rattle.std.proofs.lemmas.List.{take-append-le}
 use Rattle.std.specs.FinMap.{entries, get}
 use Rattle.frs_types.specs.declared.record.Record.{Record}
-use Rattle.frs_types.specs.Records.{Log, Placed}
+use Rattle.frs_types.specs.Records.{Log, IsPlaced}
 use Rattle.frs_disk.specs.declared.disk.Fault.{Fault}
 use Rattle.frs_disk.specs.Disk.{Image, AgreesElsewhere, Passes, Within, LeftNoFile}
 use Rattle.frs_disk.proofs.Moments.{passes_join, within_join}
 use Rattle.frs_segment.specs.Front.{IsInTheMaking}
-use Rattle.frs_segment.specs.declared.layout.Segment.{Segment as Described}
+use Rattle.frs_segment.specs.declared.layout.Segment.{Segment}
 use Rattle.frs_slots.specs.Views.{TakerView}
-use Rattle.frs_writer.specs.Groups.{Gathers}
+use Rattle.frs_writer.specs.Groups.{GathersGroup}
 use Rattle.frs_writer.specs.Holds.{ShowsFrom, IsKept}
-use Rattle.frs_writer.specs.Shown.{Shows}
+use Rattle.frs_writer.specs.Shown.{ShowsLog}
 use Rattle.frs_writer.specs.Writer.{WriterView, IsLog, WasEmpty, IsWellOpened}
 use Rattle.frs_writer.specs.Writing.{is_due}
 use Rattle.frs_writer.proofs.Keeping.{Grouping, grouping, placed_before}
@@ -29,18 +29,18 @@ shows_more {alone = alone} {fresh = fresh} synced log log' more image is (n, lea
   n,
   least,
   omega (arith, most, length-append log.records more),
-  subst (λ (l : List Record). Shows alone fresh image log.first l) (sym (take-append-le (n + 1 - log.first) log.records more (omega (arith, most)))) shows,
+  subst (λ (l : List Record). ShowsLog alone fresh image log.first l) (sym (take-append-le (n + 1 - log.first) log.records more (omega (arith, most)))) shows,
 )
 
 -- the newest segment of the rolled view
 pub rolled_newest : {D : Type 0} (tells : D → Bool) (reads : D → Image) (may_leave : D → Image → Type 0) (removing : D → ℕ → Type 0) (w1 : WriterView D) (kept : IsKept tells reads may_leave removing w1)
-    (before : List Described) (s : Described) → w1.segments ≡ before ++ s ∷ [] → (before ≡ kept.counted.older) × (s ≡ kept.counted.newest)
+    (before : List Segment) (s : Segment) → w1.segments ≡ before ++ s ∷ [] → (before ≡ kept.counted.older) × (s ≡ kept.counted.newest)
 rolled_newest tells reads may_leave removing w1 kept before s is = same_newest before kept.counted.older s kept.counted.newest (sym is ∙ kept.counted.segments)
 
 -- the time over a group that was put
 pub put_time : {D : Type 0} (tells : D → Bool) (reads : D → Image) (may_leave : D → Image → Type 0) (removing : D → ℕ → Type 0) (moment : D → ℕ) (left_since : D → ℕ → Image → Type 0)
     (since_earlier : (disk : D) (s t : ℕ) (c : Image) → s ≤ t → left_since disk t c → left_since disk s c)
-    (start old new : D) (before after : Described) (group : List (List ℕ)) (result : Result ℕ Fault) → Passes moment left_since start old
+    (start old new : D) (before after : Segment) (group : List (List ℕ)) (result : Result ℕ Fault) → Passes moment left_since start old
     → IsPut tells reads may_leave removing moment left_since old new before after group result → Passes moment left_since start new
 put_time tells reads may_leave removing moment left_since since_earlier start old new before after group result time put = elim (cases_lt 0 (length group)) [
   | inl lt ↦ passes_join moment left_since start old new (since_earlier new) time (put.some (omega (arith, lt))).time
@@ -60,11 +60,11 @@ module _ {D : Type 0} (tells : D → Bool) (reads : D → Image) (may_leave : D 
   view = rolled_view tells reads may_leave removing moment left_since counts_now stays_absent w kept fine mid
 
   module _ (kept1 : IsKept tells reads may_leave removing view)
-      (limit : ℕ) (few : limit ≤ 256) (t : TakerView) (still : Option (List ℕ)) (group : List (List ℕ)) (g : Gathers limit w.taker t w.kept still group) (d : D)
-      (after : Described) (result : Result ℕ Fault) (put : IsPut tells reads may_leave removing moment left_since mid d kept1.counted.newest after group result)
+      (limit : ℕ) (few : limit ≤ 256) (t : TakerView) (still : Option (List ℕ)) (group : List (List ℕ)) (g : GathersGroup limit w.taker t w.kept still group) (d : D)
+      (after : Segment) (result : Result ℕ Fault) (put : IsPut tells reads may_leave removing moment left_since mid d kept1.counted.newest after group result)
       (short : 1 ≤ length group → kept1.counted.newest.length < 2 ^ 20)
       (put_passes : Passes moment left_since mid d) where
-    pub next_images : (w' : WriterView D) → w'.opened ≡ w.opened → w'.taker ≡ t → IsTrue (tells w.disk) → IsWellOpened reads may_leave w.opened → (log' : Log) → IsLog reads w' log' → Placed log'
+    pub next_images : (w' : WriterView D) → w'.opened ≡ w.opened → w'.taker ≡ t → IsTrue (tells w.disk) → IsWellOpened reads may_leave w.opened → (log' : Log) → IsLog reads w' log' → IsPlaced log'
         → Within moment left_since w.disk d (λ c. ShowsFrom (WasEmpty reads w.opened) (LeftNoFile may_leave w.opened) w.synced log' (entries c))
     next_images w' same taker told well log' is_log placed =
         let told_mid : IsTrue (tells mid) = subst IsTrue (sym told_same) told in

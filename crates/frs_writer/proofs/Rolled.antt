@@ -5,13 +5,13 @@ use Rattle.std.proofs.lemmas.Bool.{and_parts, cases_eq, leb-true, ltb-true}
 use Rattle.std.proofs.lemmas.List.{map-append, get_or-set_same, get_or-set_other, length-set}
 use Rattle.std.specs.Prelude.{Result, Ok, Err, OnOk, OnErr}
 use Rattle.std.specs.FinMap.{entries, get}
-use Rattle.frs_types.specs.Records.{Log, Placed}
+use Rattle.frs_types.specs.Records.{Log, IsPlaced}
 use Rattle.frs_disk.specs.declared.disk.Fault.{Fault}
 use Rattle.frs_disk.specs.Disk.{Image, AgreesElsewhere, SameElsewhere, IsSynced, Within, LeftNoFile}
 use Rattle.frs_segment.specs.Front.{IsInTheMaking, empty_segment}
-use Rattle.frs_segment.specs.declared.layout.Segment.{Segment as Described}
-use Rattle.frs_segment.specs.Segments.{Segment}
-use Rattle.frs_segment.specs.Scanning.{described}
+use Rattle.frs_segment.specs.declared.layout.Segment.{Segment}
+use Rattle.frs_segment.specs.Segments.{WholeSegment}
+use Rattle.frs_segment.specs.Scanning.{places_of_segment}
 use Rattle.frs_slots.specs.Views.{TakerView}
 use Rattle.frs_writer.specs.Appending.{IsAtGate}
 use Rattle.frs_writer.specs.Holds.{IsCounted, ShowsFrom, durable_of, Holds, IsKept}
@@ -41,7 +41,7 @@ module _ {D : Type 0} (tells : D → Bool) (reads : D → Image) (may_leave : D 
 
   -- the writer with the new segment
   abbrev pub rolled_view : WriterView D
-  rolled_view = record { opened = w.opened; disk = d; taker = w.taker; kept = w.kept; segments = w.segments ++ described (new_segment next_number (w.synced + 1)) ∷ []; noted = w.noted; synced = w.synced; ended = None }
+  rolled_view = record { opened = w.opened; disk = d; taker = w.taker; kept = w.kept; segments = w.segments ++ places_of_segment (new_segment next_number (w.synced + 1)) ∷ []; noted = w.noted; synced = w.synced; ended = None }
 
   -- and where its making was cut short
   abbrev pub cut_view : Fault → WriterView D
@@ -84,20 +84,20 @@ module _ {D : Type 0} (tells : D → Bool) (reads : D → Image) (may_leave : D 
         let work = kept.at_work fine told in
         stays_absent w.disk q e told (work.none_above q (omega (arith, at))) (work.none_removed q (omega (arith, at))) was
 
-    module _ (told : IsTrue (tells w.disk)) (well : IsWellOpened reads may_leave w.opened) (log : Log) (is_log : IsLog reads w log) (placed : Placed log) where
+    module _ (told : IsTrue (tells w.disk)) (well : IsWellOpened reads may_leave w.opened) (log : Log) (is_log : IsLog reads w log) (placed : IsPlaced log) where
       held : Holds reads may_leave w log
       held = kept.holds told well log is_log placed
 
-      ends_at : (last : Segment) (c : Image) → Rests (WasEmpty reads w.opened) (LeftNoFile may_leave w.opened) (entries c) log.first (durable_of w log).records last → (before : List Segment) → w.segments ≡ map described (before ++ last ∷ []) → w.synced + 1 ≡ log.first + length (durable_of w log).records
-      ends_at last c rests before segments = sym kept.counted.ends ∙ ap (λ (s : Described). s.«end») (newest_is w kept.counted before last segments) ∙ rests_end rests
+      ends_at : (last : WholeSegment) (c : Image) → Rests (WasEmpty reads w.opened) (LeftNoFile may_leave w.opened) (entries c) log.first (durable_of w log).records last → (before : List WholeSegment) → w.segments ≡ map places_of_segment (before ++ last ∷ []) → w.synced + 1 ≡ log.first + length (durable_of w log).records
+      ends_at last c rests before segments = sym kept.counted.ends ∙ ap (λ (s : Segment). s.«end») (newest_is w kept.counted before last segments) ∙ rests_end rests
 
       -- the newest segment has a record, so the next one can be made
-      takes : (last : Segment) (e : Image) (rests : Rests (WasEmpty reads w.opened) (LeftNoFile may_leave w.opened) (entries e) log.first (durable_of w log).records last) (before : List Segment) → w.segments ≡ map described (before ++ last ∷ [])
+      takes : (last : WholeSegment) (e : Image) (rests : Rests (WasEmpty reads w.opened) (LeftNoFile may_leave w.opened) (entries e) log.first (durable_of w log).records last) (before : List WholeSegment) → w.segments ≡ map places_of_segment (before ++ last ∷ [])
           → LeftNoFile may_leave w.opened → TakesNext next_number (log.first + length (durable_of w log).records) (entries e) (rests_shows rests).segments
       takes last e rests before segments fresh =
-          let newest : kept.counted.newest ≡ described last = newest_is w kept.counted before last segments in
-          subst (λ (n : ℕ). TakesNext n (log.first + length (durable_of w log).records) (entries e) (rests_shows rests).segments) (ap (λ (s : Described). s.number + 1) (sym newest))
-          (rests_takes rests (some_records last rests.made.chunks (omega (arith, long, ap (λ (s : Described). s.length) newest))) fresh)
+          let newest : kept.counted.newest ≡ places_of_segment last = newest_is w kept.counted before last segments in
+          subst (λ (n : ℕ). TakesNext n (log.first + length (durable_of w log).records) (entries e) (rests_shows rests).segments) (ap (λ (s : Segment). s.number + 1) (sym newest))
+          (rests_takes rests (some_records last rests.made.chunks (omega (arith, long, ap (λ (s : Segment). s.length) newest))) fresh)
 
       pub rolled_images : Within moment left_since w.disk d (λ c. ShowsFrom (WasEmpty reads w.opened) (LeftNoFile may_leave w.opened) w.synced log (entries c))
       rolled_images c left =
@@ -129,8 +129,8 @@ module _ {D : Type 0} (tells : D → Bool) (reads : D → Image) (may_leave : D 
               rolled_rests durable made,
               (
                 before ++ last ∷ [],
-                ap (λ (l : List Described). l ++ described (new_segment next_number (w.synced + 1)) ∷ []) segments
-                    ∙ sym (map-append described (before ++ last ∷ []) (new_segment next_number (w.synced + 1) ∷ [])),
+                ap (λ (l : List Segment). l ++ places_of_segment (new_segment next_number (w.synced + 1)) ∷ []) segments
+                    ∙ sym (map-append places_of_segment (before ++ last ∷ []) (new_segment next_number (w.synced + 1) ∷ [])),
               ),
             );
           }
@@ -154,7 +154,7 @@ module _ {D : Type 0} (tells : D → Bool) (reads : D → Image) (may_leave : D 
       counted_rolled : IsCounted rolled_view
       counted_rolled = record {
         older = w.segments;
-        newest = described (new_segment next_number (w.synced + 1));
+        newest = places_of_segment (new_segment next_number (w.synced + 1));
         segments = refl;
         number = (omega (arith, kept.counted.number), high);
         ends = omega arith;

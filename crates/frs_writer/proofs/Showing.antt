@@ -8,36 +8,36 @@ use Rattle.std.proofs.lemmas.List.{append-nil, drop_all}
 use Rattle.std.proofs.lemmas.Grind.{flat_map-append}
 use Rattle.std.proofs.Math.Seq.{drop-append-add}
 use Rattle.frs_types.specs.declared.record.Record.{Record}
-use Rattle.frs_types.specs.Records.{Log, allowed, allowed_from, kind_allows, has_words, named_lowest, from_lowest}
+use Rattle.frs_types.specs.Records.{Log, is_allowed, are_allowed_from, kind_allows, has_words, named_lowest, from_lowest}
 use Rattle.frs_segment.specs.Front.{header, empty_segment, IsHalfMade}
 use Rattle.frs_segment.specs.Order.{IsInOrder}
-use Rattle.frs_segment.specs.Segments.{File, Segment, IsSegment, Image, records_of, end_of, body, chunk_bytes, chunks_bytes, segment_spelling, is_chunk, are_chunks, open_files, all_records, follow_from, first_alone_reaches, first_of, are_enough, SpellsBy, Spells}
-use Rattle.frs_writer.specs.Shown.{Shows, Rests, TakesNext, file_of, with_chunk, new_segment}
+use Rattle.frs_segment.specs.Segments.{File, WholeSegment, IsSegment, FileList, records_of, end_of, body, chunk_bytes, chunks_bytes, segment_spelling, is_chunk, are_chunks, open_files, all_records, follow_from, first_alone_reaches, first_of, are_enough, SpellsBy, Spells}
+use Rattle.frs_writer.specs.Shown.{ShowsLog, Rests, TakesNext, file_of, with_chunk, new_segment}
 use Rattle.frs_writer.proofs.Order.{spelled_open, half_shut, open_more, open_as_before, all_open_more, with_open, with_half, takes_more, takes_first, none_looked, none_order}
 
 -- ---- lists of segments
 
-zip_more : (looked : List File) (segments : List Segment) (f : File) (s : Segment) → AllZip IsSegment looked segments → IsSegment f s → AllZip IsSegment (looked ++ f ∷ []) (segments ++ s ∷ [])
+zip_more : (looked : List File) (segments : List WholeSegment) (f : File) (s : WholeSegment) → AllZip IsSegment looked segments → IsSegment f s → AllZip IsSegment (looked ++ f ∷ []) (segments ++ s ∷ [])
 zip_more [] [] f s each is = (is, tt)
 zip_more [] (t ∷ segments) f s each is = absurd each
 zip_more (g ∷ looked) [] f s each is = absurd each
 zip_more (g ∷ looked) (t ∷ segments) f s each is = (each.0, zip_more looked segments f s each.1 is)
 
-all_records-append : (a b : List Segment) → all_records (a ++ b) ≡ all_records a ++ all_records b
+all_records-append : (a b : List WholeSegment) → all_records (a ++ b) ≡ all_records a ++ all_records b
 all_records-append a b = flat_map-append records_of a b
 
-all_records_more : (segments : List Segment) (s : Segment) → all_records (segments ++ s ∷ []) ≡ all_records segments ++ records_of s
+all_records_more : (segments : List WholeSegment) (s : WholeSegment) → all_records (segments ++ s ∷ []) ≡ all_records segments ++ records_of s
 all_records_more segments s = all_records-append segments (s ∷ []) ∙ ap (λ (rs : List Record). all_records segments ++ rs) (append-nil (records_of s))
 
 -- segments that follow each other, taken apart and put together
-follow_behind : (n : ℕ) (a b : List Segment) → IsTrue (follow_from n (a ++ b)) → IsTrue (follow_from (n + length (all_records a)) b)
+follow_behind : (n : ℕ) (a b : List WholeSegment) → IsTrue (follow_from n (a ++ b)) → IsTrue (follow_from (n + length (all_records a)) b)
 follow_behind n [] b is = subst (λ (k : ℕ). IsTrue (follow_from k b)) (omega arith) is
 follow_behind n (s ∷ a) b is =
     let parts = and_parts (nat_eq s.first n) (follow_from (end_of s) (a ++ b)) is in
     let e : end_of s + length (all_records a) ≡ n + length (all_records (s ∷ a)) = omega (arith, eqb-true s.first n parts.0, length-append (records_of s) (all_records a)) in
     subst (λ (k : ℕ). IsTrue (follow_from k b)) e (follow_behind (end_of s) a b parts.1)
 
-follow_more : (n : ℕ) (segments : List Segment) (s : Segment) → IsTrue (follow_from n segments) → s.first ≡ n + length (all_records segments) → IsTrue (follow_from n (segments ++ s ∷ []))
+follow_more : (n : ℕ) (segments : List WholeSegment) (s : WholeSegment) → IsTrue (follow_from n segments) → s.first ≡ n + length (all_records segments) → IsTrue (follow_from n (segments ++ s ∷ []))
 follow_more n [] s is first = and_from _ _ (eq-eqb s.first n (omega (arith, first))) refl
 follow_more n (t ∷ segments) s is first =
     let parts = and_parts (nat_eq t.first n) (follow_from (end_of t) segments) is in
@@ -45,13 +45,13 @@ follow_more n (t ∷ segments) s is first =
     and_from _ _ parts.0 (follow_more (end_of t) segments s parts.1 e)
 
 -- the last one may have more records
-follow_longer : (n : ℕ) (segments : List Segment) (s : Segment) (rs : List Record) → IsTrue (follow_from n (segments ++ s ∷ [])) → IsTrue (follow_from n (segments ++ with_chunk s rs ∷ []))
+follow_longer : (n : ℕ) (segments : List WholeSegment) (s : WholeSegment) (rs : List Record) → IsTrue (follow_from n (segments ++ s ∷ [])) → IsTrue (follow_from n (segments ++ with_chunk s rs ∷ []))
 follow_longer n [] s rs is = is
 follow_longer n (t ∷ segments) s rs is =
     let parts = and_parts (nat_eq t.first n) (follow_from (end_of t) (segments ++ s ∷ [])) is in
     and_from _ _ parts.0 (follow_longer (end_of t) segments s rs parts.1)
 
-first_longer : (segments : List Segment) (s : Segment) (rs : List Record) → first_of (segments ++ with_chunk s rs ∷ []) ≡ first_of (segments ++ s ∷ [])
+first_longer : (segments : List WholeSegment) (s : WholeSegment) (rs : List Record) → first_of (segments ++ with_chunk s rs ∷ []) ≡ first_of (segments ++ s ∷ [])
 first_longer [] s rs = refl
 first_longer (t ∷ segments) s rs = refl
 
@@ -72,28 +72,28 @@ bytes_more n (qs ∷ chunks) rs =
     ∙ sym (append_assoc (chunk_bytes n qs) (chunks_bytes (n + length qs) chunks) (chunk_bytes (n + length qs + length (flat_map (λ (x : List Record). x) chunks)) rs))
     ∙ ap (λ (k : ℕ). (chunk_bytes n qs ++ chunks_bytes (n + length qs) chunks) ++ chunk_bytes k rs) e
 
-records_more : (s : Segment) (rs : List Record) → records_of (with_chunk s rs) ≡ records_of s ++ rs
+records_more : (s : WholeSegment) (rs : List Record) → records_of (with_chunk s rs) ≡ records_of s ++ rs
 records_more s rs = flat_map-append (λ (x : List Record). x) s.chunks (rs ∷ []) ∙ ap (λ (x : List Record). records_of s ++ x) (append-nil rs)
 
 -- the bytes of a segment with one more chunk
-pub chunk_spelling : (s : Segment) (rs : List Record) → segment_spelling (with_chunk s rs) ≡ segment_spelling s ++ chunk_bytes (end_of s) rs
+pub chunk_spelling : (s : WholeSegment) (rs : List Record) → segment_spelling (with_chunk s rs) ≡ segment_spelling s ++ chunk_bytes (end_of s) rs
 chunk_spelling s rs =
     ap (λ (b : List ℕ). (1 ∷ header s.number s.first) ++ b) (bytes_more s.first s.chunks rs)
     ∙ sym (append_assoc (1 ∷ header s.number s.first) (chunks_bytes s.first s.chunks) (chunk_bytes (end_of s) rs))
 
 -- and its end
-pub chunk_end : (s : Segment) (rs : List Record) → end_of (with_chunk s rs) ≡ end_of s + length rs
+pub chunk_end : (s : WholeSegment) (rs : List Record) → end_of (with_chunk s rs) ≡ end_of s + length rs
 chunk_end s rs = omega (arith, ap length (records_more s rs), length-append (records_of s) rs)
 
 -- a chunk has a record
 some_record : (n : ℕ) (rs : List Record) → IsTrue (is_chunk n rs) → 1 ≤ length rs
 some_record n rs is =
-    let a = and_parts (nat_le 1 (length rs) && nat_le (length rs) 256 && nat_le (length (body rs)) (2 ^ 20)) (allowed_from n rs) is in
+    let a = and_parts (nat_le 1 (length rs) && nat_le (length rs) 256 && nat_le (length (body rs)) (2 ^ 20)) (are_allowed_from n rs) is in
     let b = and_parts (nat_le 1 (length rs) && nat_le (length rs) 256) (nat_le (length (body rs)) (2 ^ 20)) a.0 in
     leb-true 1 (length rs) (and_parts (nat_le 1 (length rs)) (nat_le (length rs) 256) b.0).0
 
 -- a segment that is longer than its header has a record
-pub some_records : (s : Segment) → IsTrue (are_chunks s.first s.chunks) → 23 ≤ length (segment_spelling s) → 1 ≤ length (records_of s)
+pub some_records : (s : WholeSegment) → IsTrue (are_chunks s.first s.chunks) → 23 ≤ length (segment_spelling s) → 1 ≤ length (records_of s)
 some_records s all long = at s.chunks refl all
   where
     at : (chunks : List (List Record)) → s.chunks ≡ chunks → IsTrue (are_chunks s.first chunks) → 1 ≤ length (flat_map (λ (x : List Record). x) s.chunks)
@@ -109,15 +109,15 @@ some_records s all long = at s.chunks refl all
 -- ---- the newest file, and what is written to it
 
 -- whatever stands behind the last file's closed gate
-pub rests_shut : {alone fresh : Type 0} {image : Image} {first : ℕ} {records : List Record} {last : Segment} → (r : Rests alone fresh image first records last) → (c : Image) (gate : ℕ) (rest : List ℕ) → gate ≢ 1 → IsTrue (is_sorted nat_cmp c)
-    → c ≡ r.front ++ (last.number, segment_spelling last ++ gate ∷ rest) ∷ [] → Shows alone fresh c first records
+pub rests_shut : {alone fresh : Type 0} {image : FileList} {first : ℕ} {records : List Record} {last : WholeSegment} → (r : Rests alone fresh image first records last) → (c : FileList) (gate : ℕ) (rest : List ℕ) → gate ≢ 1 → IsTrue (is_sorted nat_cmp c)
+    → c ≡ r.front ++ (last.number, segment_spelling last ++ gate ∷ rest) ∷ [] → ShowsLog alone fresh c first records
 rests_shut {first = first} {records = records} {last = last} r c gate rest other sorted is =
     let file : File = (last.number, segment_spelling last ++ gate ∷ rest) in
     record {
       rising = sorted;
       older = r.older;
       looked = r.looked ++ file ∷ [];
-      files = sym (append_assoc r.older r.looked (file ∷ [])) ∙ ap (λ (x : Image). x ++ file ∷ []) r.open_ones ∙ sym (open_more r.front file (spelled_open last.number last gate rest)) ∙ sym (ap open_files is);
+      files = sym (append_assoc r.older r.looked (file ∷ [])) ∙ ap (λ (x : FileList). x ++ file ∷ []) r.open_ones ∙ sym (open_more r.front file (spelled_open last.number last gate rest)) ∙ sym (ap open_files is);
       segments = r.segments ++ last ∷ [];
       each = zip_more r.looked r.segments file last r.each made;
       follow = r.follow;
@@ -127,7 +127,7 @@ rests_shut {first = first} {records = records} {last = last} r c gate rest other
       alone_is = r.alone_is;
       whole = r.whole;
       fresh_is = λ fresh.
-          subst (λ (x : Image). IsInOrder 1 (first + length records) x (r.segments ++ last ∷ [])) (sym is)
+          subst (λ (x : FileList). IsInOrder 1 (first + length records) x (r.segments ++ last ∷ [])) (sym is)
           (with_open 1 (first + length records) r.front file r.segments last (spelled_open last.number last gate rest) (r.fresh_is fresh));
     }
   where
@@ -144,11 +144,11 @@ rests_shut {first = first} {records = records} {last = last} r c gate rest other
     }
 
 -- as it stands
-pub rests_shows : {alone fresh : Type 0} {image : Image} {first : ℕ} {records : List Record} {last : Segment} → Rests alone fresh image first records last → Shows alone fresh image first records
+pub rests_shows : {alone fresh : Type 0} {image : FileList} {first : ℕ} {records : List Record} {last : WholeSegment} → Rests alone fresh image first records last → ShowsLog alone fresh image first records
 rests_shows {image = image} r = rests_shut r image 0 [] (omega arith) r.rising r.files
 
 -- the last file ends at the next LSN
-pub rests_end : {alone fresh : Type 0} {image : Image} {first : ℕ} {records : List Record} {last : Segment} → Rests alone fresh image first records last → end_of last ≡ first + length records
+pub rests_end : {alone fresh : Type 0} {image : FileList} {first : ℕ} {records : List Record} {last : WholeSegment} → Rests alone fresh image first records last → end_of last ≡ first + length records
 rests_end {records = records} {last = last} r =
     let start = first_of (r.segments ++ last ∷ []) in
     let here = and_parts (nat_eq last.first (start + length (all_records r.segments))) true (follow_behind start r.segments (last ∷ []) r.follow) in
@@ -162,21 +162,21 @@ rests_end {records = records} {last = last} r =
     )
 
 -- all files are open
-pub rests_open : {alone fresh : Type 0} {image : Image} {first : ℕ} {records : List Record} {last : Segment} → (r : Rests alone fresh image first records last) → fresh → open_files image ≡ image
+pub rests_open : {alone fresh : Type 0} {image : FileList} {first : ℕ} {records : List Record} {last : WholeSegment} → (r : Rests alone fresh image first records last) → fresh → open_files image ≡ image
 rests_open {last = last} r fresh =
     ap open_files r.files ∙ all_open_more r.front (file_of last) (spelled_open last.number last 0 []) (r.fresh_is fresh).all_open ∙ sym r.files
 
 -- where the last file has a record one more can stand behind it
-pub rests_takes : {alone fresh : Type 0} {image : Image} {first : ℕ} {records : List Record} {last : Segment} → (r : Rests alone fresh image first records last) → 1 ≤ length (records_of last) → fresh
+pub rests_takes : {alone fresh : Type 0} {image : FileList} {first : ℕ} {records : List Record} {last : WholeSegment} → (r : Rests alone fresh image first records last) → 1 ≤ length (records_of last) → fresh
     → TakesNext (last.number + 1) (first + length records) image (rests_shows r).segments
 unfolding rests_shut rests_shows
 rests_takes {first = first} {records = records} {last = last} r some fresh =
-    subst (λ (x : Image). TakesNext (last.number + 1) (first + length records) x (r.segments ++ last ∷ [])) (sym r.files)
+    subst (λ (x : FileList). TakesNext (last.number + 1) (first + length records) x (r.segments ++ last ∷ [])) (sym r.files)
     (takes_more (first + length records) r.front (file_of last) r.segments last (spelled_open last.number last 0 []) (r.fresh_is fresh) (omega (arith, some, rests_end r)))
 
 -- the last file has one more chunk
-pub rests_chunk : {alone fresh : Type 0} {image : Image} {first : ℕ} {records : List Record} {last : Segment} → (r : Rests alone fresh image first records last) → (rs : List Record) → IsTrue (is_chunk (end_of last) rs) → end_of last + length rs ≤ 2 ^ 62
-    → (c : Image) → IsTrue (is_sorted nat_cmp c) → c ≡ r.front ++ file_of (with_chunk last rs) ∷ [] → Rests alone fresh c first (records ++ rs) (with_chunk last rs)
+pub rests_chunk : {alone fresh : Type 0} {image : FileList} {first : ℕ} {records : List Record} {last : WholeSegment} → (r : Rests alone fresh image first records last) → (rs : List Record) → IsTrue (is_chunk (end_of last) rs) → end_of last + length rs ≤ 2 ^ 62
+    → (c : FileList) → IsTrue (is_sorted nat_cmp c) → c ≡ r.front ++ file_of (with_chunk last rs) ∷ [] → Rests alone fresh c first (records ++ rs) (with_chunk last rs)
 rests_chunk {records = records} {last = last} r rs chunk within c sorted is = record {
   rising = sorted;
   front = r.front;
@@ -209,7 +209,7 @@ rests_chunk {records = records} {last = last} r rs chunk within c sorted is = re
 }
 
 -- a log stands alone under one condition where it does under another
-pub shows_as : {alone other fresh : Type 0} {image : Image} {first : ℕ} {records : List Record} → (alone → other) → (other → alone) → Shows alone fresh image first records → Shows other fresh image first records
+pub shows_as : {alone other fresh : Type 0} {image : FileList} {first : ℕ} {records : List Record} → (alone → other) → (other → alone) → ShowsLog alone fresh image first records → ShowsLog other fresh image first records
 shows_as then when s = record {
   rising = s.rising;
   older = s.older;
@@ -226,7 +226,7 @@ shows_as then when s = record {
   fresh_is = s.fresh_is;
 }
 
-pub rests_as : {alone other fresh : Type 0} {image : Image} {first : ℕ} {records : List Record} {last : Segment} → (alone → other) → (other → alone) → Rests alone fresh image first records last → Rests other fresh image first records last
+pub rests_as : {alone other fresh : Type 0} {image : FileList} {first : ℕ} {records : List Record} {last : WholeSegment} → (alone → other) → (other → alone) → Rests alone fresh image first records last → Rests other fresh image first records last
 rests_as then when r = record {
   rising = r.rising;
   front = r.front;
@@ -249,12 +249,12 @@ rests_as then when r = record {
 -- ---- one more file
 
 -- where there is no file yet the first one can be made
-pub shows_takes : {alone fresh : Type 0} {image : Image} {first : ℕ} {records : List Record} → (s : Shows alone fresh image first records) → (number : ℕ) → image ≡ [] → number ≡ 1 → TakesNext number (first + length records) image s.segments
+pub shows_takes : {alone fresh : Type 0} {image : FileList} {first : ℕ} {records : List Record} → (s : ShowsLog alone fresh image first records) → (number : ℕ) → image ≡ [] → number ≡ 1 → TakesNext number (first + length records) image s.segments
 shows_takes {image = image} {first = first} {records = records} s number none is =
     takes_first number (first + length records) image s.segments none (none_looked image s.older s.looked s.segments none s.files s.each) is
 
 -- a half-made file above the others
-pub shows_half : {alone fresh : Type 0} {image : Image} {first : ℕ} {records : List Record} → (s : Shows alone fresh image first records) → (n : ℕ) → (fresh → TakesNext n (first + length records) image s.segments) → (b : List ℕ) → IsHalfMade b → (c : Image) → IsTrue (is_sorted nat_cmp c) → c ≡ image ++ (n, b) ∷ [] → Shows alone fresh c first records
+pub shows_half : {alone fresh : Type 0} {image : FileList} {first : ℕ} {records : List Record} → (s : ShowsLog alone fresh image first records) → (n : ℕ) → (fresh → TakesNext n (first + length records) image s.segments) → (b : List ℕ) → IsHalfMade b → (c : FileList) → IsTrue (is_sorted nat_cmp c) → c ≡ image ++ (n, b) ∷ [] → ShowsLog alone fresh c first records
 shows_half {image = image} {first = first} {records = records} s n takes b half c sorted is = record {
   rising = sorted;
   older = s.older;
@@ -269,16 +269,16 @@ shows_half {image = image} {first = first} {records = records} s n takes b half 
   alone_is = s.alone_is;
   whole = s.whole;
   fresh_is = λ fresh.
-      subst (λ (x : Image). IsInOrder 1 (first + length records) x s.segments) (sym is)
+      subst (λ (x : FileList). IsInOrder 1 (first + length records) x s.segments) (sym is)
       (with_half (first + length records) image (n, b) s.segments (half_shut n b half) (takes fresh));
 }
 
 -- what a segment without a chunk is behind others
-record Next (segments : List Segment) (earlier records : List Record) (first : ℕ) (t : Segment) : Type 0 where
+record Next (segments : List WholeSegment) (earlier records : List Record) (first : ℕ) (t : WholeSegment) : Type 0 where
   follow : IsTrue (follow_from (first_of (segments ++ t ∷ [])) (segments ++ t ∷ []))
   begins : first_of (segments ++ t ∷ []) + length earlier ≡ first
 
-next : (segments : List Segment) (earlier records : List Record) (first : ℕ) (t : Segment) → IsTrue (follow_from (first_of segments) segments) → first_of segments + length earlier ≡ first → all_records segments ≡ earlier ++ records
+next : (segments : List WholeSegment) (earlier records : List Record) (first : ℕ) (t : WholeSegment) → IsTrue (follow_from (first_of segments) segments) → first_of segments + length earlier ≡ first → all_records segments ≡ earlier ++ records
     → t.first ≡ first + length records → Next segments earlier records first t
 next [] earlier records first t follow begins shown is =
     let none : length earlier + length records ≡ 0 = omega (arith, ap length shown, length-append earlier records) in
@@ -292,8 +292,8 @@ next (s ∷ segments) earlier records first t follow begins shown is = record {
 }
 
 -- a segment without a chunk above the others
-pub shows_next : {alone fresh : Type 0} {image : Image} {first : ℕ} {records : List Record} → (s : Shows alone fresh image first records) → (n f : ℕ) → (fresh → TakesNext n (first + length records) image s.segments) → f ≡ first + length records → 1 ≤ n → n < 2 ^ 62 → 1 ≤ f → f < 2 ^ 62
-    → (c : Image) → IsTrue (is_sorted nat_cmp c) → c ≡ image ++ (n, empty_segment n f) ∷ [] → Rests alone fresh c first records (new_segment n f)
+pub shows_next : {alone fresh : Type 0} {image : FileList} {first : ℕ} {records : List Record} → (s : ShowsLog alone fresh image first records) → (n f : ℕ) → (fresh → TakesNext n (first + length records) image s.segments) → f ≡ first + length records → 1 ≤ n → n < 2 ^ 62 → 1 ≤ f → f < 2 ^ 62
+    → (c : FileList) → IsTrue (is_sorted nat_cmp c) → c ≡ image ++ (n, empty_segment n f) ∷ [] → Rests alone fresh c first records (new_segment n f)
 shows_next {image = image} {first = first} {records = records} s n f takes first_is some below first_some first_below c sorted is =
     let t = new_segment n f in
     let at = next s.segments s.earlier records first t s.follow s.begins s.shown first_is in
@@ -328,33 +328,33 @@ shows_next {image = image} {first = first} {records = records} s n f takes first
 -- ---- what the records of a segment name
 
 -- records behind others may stand there
-allowed_both : (n : ℕ) (rs qs : List Record) → IsTrue (allowed_from n rs) → IsTrue (allowed_from (n + length rs) qs) → IsTrue (allowed_from n (rs ++ qs))
-allowed_both n [] qs all more = subst (λ (k : ℕ). IsTrue (allowed_from k qs)) (omega arith) more
+allowed_both : (n : ℕ) (rs qs : List Record) → IsTrue (are_allowed_from n rs) → IsTrue (are_allowed_from (n + length rs) qs) → IsTrue (are_allowed_from n (rs ++ qs))
+allowed_both n [] qs all more = subst (λ (k : ℕ). IsTrue (are_allowed_from k qs)) (omega arith) more
 allowed_both n (r ∷ rs) qs all more =
-    let parts = and_parts (allowed n r) (allowed_from (n + 1) rs) all in
+    let parts = and_parts (is_allowed n r) (are_allowed_from (n + 1) rs) all in
     let e : n + length (r ∷ rs) ≡ n + 1 + length rs = omega arith in
-    and_from (allowed n r) (allowed_from (n + 1) (rs ++ qs)) parts.0 (allowed_both (n + 1) rs qs parts.1 (subst (λ (k : ℕ). IsTrue (allowed_from k qs)) e more))
+    and_from (is_allowed n r) (are_allowed_from (n + 1) (rs ++ qs)) parts.0 (allowed_both (n + 1) rs qs parts.1 (subst (λ (k : ℕ). IsTrue (are_allowed_from k qs)) e more))
 
-chunks_allowed : (n : ℕ) (chunks : List (List Record)) → IsTrue (are_chunks n chunks) → IsTrue (allowed_from n (flat_map (λ (x : List Record). x) chunks))
+chunks_allowed : (n : ℕ) (chunks : List (List Record)) → IsTrue (are_chunks n chunks) → IsTrue (are_allowed_from n (flat_map (λ (x : List Record). x) chunks))
 chunks_allowed n [] all = refl
 chunks_allowed n (rs ∷ chunks) all =
     let parts = and_parts (is_chunk n rs) (are_chunks (n + length rs) chunks) all in
-    let here = and_parts (nat_le 1 (length rs) && nat_le (length rs) 256 && nat_le (length (body rs)) (2 ^ 20)) (allowed_from n rs) parts.0 in
+    let here = and_parts (nat_le 1 (length rs) && nat_le (length rs) 256 && nat_le (length (body rs)) (2 ^ 20)) (are_allowed_from n rs) parts.0 in
     allowed_both n rs (flat_map (λ (x : List Record). x) chunks) here.1 (chunks_allowed (n + length rs) chunks parts.1)
 
-all_allowed : (n : ℕ) (files : List File) (segments : List Segment) → AllZip IsSegment files segments → IsTrue (follow_from n segments) → IsTrue (allowed_from n (all_records segments))
+all_allowed : (n : ℕ) (files : List File) (segments : List WholeSegment) → AllZip IsSegment files segments → IsTrue (follow_from n segments) → IsTrue (are_allowed_from n (all_records segments))
 all_allowed n [] [] each follow = refl
 all_allowed n [] (s ∷ segments) each follow = absurd each
 all_allowed n (f ∷ files) [] each follow = absurd each
 all_allowed n (f ∷ files) (s ∷ segments) each follow =
     let parts = and_parts (nat_eq s.first n) (follow_from (end_of s) segments) follow in
     let is : s.first ≡ n = eqb-true s.first n parts.0 in
-    let here : IsTrue (allowed_from n (records_of s)) = subst (λ (k : ℕ). IsTrue (allowed_from k (records_of s))) is (chunks_allowed s.first s.chunks each.0.chunks) in
-    let more : IsTrue (allowed_from (n + length (records_of s)) (all_records segments)) = subst (λ (k : ℕ). IsTrue (allowed_from k (all_records segments))) (ap (λ (k : ℕ). k + length (records_of s)) is) (all_allowed (end_of s) files segments each.1 parts.1) in
+    let here : IsTrue (are_allowed_from n (records_of s)) = subst (λ (k : ℕ). IsTrue (are_allowed_from k (records_of s))) is (chunks_allowed s.first s.chunks each.0.chunks) in
+    let more : IsTrue (are_allowed_from (n + length (records_of s)) (all_records segments)) = subst (λ (k : ℕ). IsTrue (are_allowed_from k (all_records segments))) (ap (λ (k : ℕ). k + length (records_of s)) is) (all_allowed (end_of s) files segments each.1 parts.1) in
     allowed_both n (records_of s) (all_records segments) here more
 
 -- a record's lowest is at or below its LSN
-lowest_at : (n : ℕ) (r : Record) → IsTrue (allowed n r) → r.lowest ≤ n
+lowest_at : (n : ℕ) (r : Record) → IsTrue (is_allowed n r) → r.lowest ≤ n
 lowest_at n r is =
     let kind = kind_allows n r.action r.tx r.named in
     let a = and_parts (kind && nat_lt r.named n && nat_lt 0 r.lowest && nat_le r.lowest n) (has_words r.action) is in
@@ -363,16 +363,16 @@ lowest_at n r is =
 abbrev lowest_or : Option Record → List Record → ℕ
 lowest_or o rs = unwrap_or (option_map (λ (r : Record). r.lowest) (last_or o rs)) 1
 
-newest_lowest : (n : ℕ) (q : Record) (rs : List Record) → q.lowest < n → IsTrue (allowed_from n rs) → lowest_or (Some q) rs < n + length rs
+newest_lowest : (n : ℕ) (q : Record) (rs : List Record) → q.lowest < n → IsTrue (are_allowed_from n rs) → lowest_or (Some q) rs < n + length rs
 newest_lowest n q [] lt all = omega (arith, lt)
 newest_lowest n q (r ∷ rs) lt all =
-    let parts = and_parts (allowed n r) (allowed_from (n + 1) rs) all in
+    let parts = and_parts (is_allowed n r) (are_allowed_from (n + 1) rs) all in
     omega (arith, newest_lowest (n + 1) r rs (omega (arith, lowest_at n r parts.0)) parts.1)
 
-named_below : (n : ℕ) (rs : List Record) → (rs ≡ [] → ⊥) → IsTrue (allowed_from n rs) → named_lowest rs < n + length rs
+named_below : (n : ℕ) (rs : List Record) → (rs ≡ [] → ⊥) → IsTrue (are_allowed_from n rs) → named_lowest rs < n + length rs
 named_below n [] some all = absurd (some refl)
 named_below n (r ∷ rs) some all =
-    let parts = and_parts (allowed n r) (allowed_from (n + 1) rs) all in
+    let parts = and_parts (is_allowed n r) (are_allowed_from (n + 1) rs) all in
     omega (arith, newest_lowest (n + 1) r rs (omega (arith, lowest_at n r parts.0)) parts.1)
 
 -- the newest record is that of the last records
@@ -387,7 +387,7 @@ lowest_behind front (r ∷ rs) some = ap (λ (o : Option Record). unwrap_or (opt
 -- ---- a log that is spelled is shown
 
 -- what a spelled log's first LSN and its records are to all records of the segments
-record Told (older : Image) (segments : List Segment) (all : List Record) (first : ℕ) (records : List Record) : Type 0 where
+record Told (older : FileList) (segments : List WholeSegment) (all : List Record) (first : ℕ) (records : List Record) : Type 0 where
   earlier : List Record
   begins : first_of segments + length earlier ≡ first
   shown : all ≡ earlier ++ records
@@ -395,23 +395,23 @@ record Told (older : Image) (segments : List Segment) (all : List Record) (first
   lowest : first ≡ named_lowest records
 
 -- the first of the segments begins at or below the lowest
-reaches_from : (lowest : ℕ) (segments : List Segment) → IsTrue (first_alone_reaches lowest segments) → first_of segments ≤ lowest
+reaches_from : (lowest : ℕ) (segments : List WholeSegment) → IsTrue (first_alone_reaches lowest segments) → first_of segments ≤ lowest
 reaches_from lowest [] is = absurd cc
-reaches_from lowest (s ∷ segments) is = leb-true s.first lowest (and_parts (nat_le s.first lowest) (list_all (λ (t : Segment). nat_lt lowest t.first) segments) is).0
+reaches_from lowest (s ∷ segments) is = leb-true s.first lowest (and_parts (nat_le s.first lowest) (list_all (λ (t : WholeSegment). nat_lt lowest t.first) segments) is).0
 
-reach_of : (older : Image) (segments : List Segment) (rs : List Record) → (rs ≡ [] → ⊥) → IsTrue (are_enough older segments rs) → IsTrue (first_alone_reaches (named_lowest rs) segments)
+reach_of : (older : FileList) (segments : List WholeSegment) (rs : List Record) → (rs ≡ [] → ⊥) → IsTrue (are_enough older segments rs) → IsTrue (first_alone_reaches (named_lowest rs) segments)
 reach_of [] segments [] some is = absurd (some refl)
 reach_of (file ∷ older) segments [] some is = absurd (some refl)
 reach_of [] segments (r ∷ rs) some is = is
 reach_of (file ∷ older) segments (r ∷ rs) some is = is
 
-enough_from : (older : Image) (segments : List Segment) (rs : List Record) → (rs ≡ [] → ⊥) → IsTrue (first_alone_reaches (named_lowest rs) segments) → IsTrue (are_enough older segments rs)
+enough_from : (older : FileList) (segments : List WholeSegment) (rs : List Record) → (rs ≡ [] → ⊥) → IsTrue (first_alone_reaches (named_lowest rs) segments) → IsTrue (are_enough older segments rs)
 enough_from [] segments [] some is = absurd (some refl)
 enough_from (file ∷ older) segments [] some is = absurd (some refl)
 enough_from [] segments (r ∷ rs) some is = is
 enough_from (file ∷ older) segments (r ∷ rs) some is = is
 
-told_some : (older : Image) (segments : List Segment) (rs : List Record) → (rs ≡ [] → ⊥) → first_of segments ≤ named_lowest rs → named_lowest rs < first_of segments + length rs
+told_some : (older : FileList) (segments : List WholeSegment) (rs : List Record) → (rs ≡ [] → ⊥) → first_of segments ≤ named_lowest rs → named_lowest rs < first_of segments + length rs
     → Told older segments rs (named_lowest rs) (drop (named_lowest rs - first_of segments) rs)
 told_some older segments rs some le lt =
     let k = named_lowest rs - first_of segments in
@@ -430,7 +430,7 @@ none_left : (k : ℕ) (rs : List Record) → rs ≡ [] → drop k rs ≡ []
 none_left k [] is = drop_all k [] (omega arith)
 none_left k (r ∷ rs) is = absurd cc
 
-told : (older : Image) (looked : List File) (segments : List Segment) (rs : List Record) → all_records segments ≡ rs → AllZip IsSegment looked segments → IsTrue (follow_from (first_of segments) segments) → IsTrue (are_enough older segments rs)
+told : (older : FileList) (looked : List File) (segments : List WholeSegment) (rs : List Record) → all_records segments ≡ rs → AllZip IsSegment looked segments → IsTrue (follow_from (first_of segments) segments) → IsTrue (are_enough older segments rs)
     → Told older segments rs (named_lowest rs) (drop (named_lowest rs - first_of segments) rs)
 told [] looked segments [] is each follow enough =
     let one : first_of segments ≡ 1 = eqb-true (first_of segments) 1 enough in
@@ -445,13 +445,13 @@ told (file ∷ older) looked segments [] is each follow enough = absurd cc
 told older looked segments (r ∷ rs) is each follow enough =
     told_some older segments (r ∷ rs) (λ e. cc)
     (reaches_from (named_lowest (r ∷ rs)) segments (reach_of older segments (r ∷ rs) (λ e. cc) enough))
-    (named_below (first_of segments) (r ∷ rs) (λ e. cc) (subst (λ (x : List Record). IsTrue (allowed_from (first_of segments) x)) is (all_allowed (first_of segments) looked segments each follow)))
+    (named_below (first_of segments) (r ∷ rs) (λ e. cc) (subst (λ (x : List Record). IsTrue (are_allowed_from (first_of segments) x)) is (all_allowed (first_of segments) looked segments each follow)))
 
 -- an image shows the log that it spells
-pub base_shows : {fresh : Type 0} (image : Image) (segments : List Segment) (log : Log) → (fresh → image ≡ []) → SpellsBy image segments log → Shows (log.records ≡ []) fresh image log.first log.records
+pub base_shows : {fresh : Type 0} (image : FileList) (segments : List WholeSegment) (log : Log) → (fresh → image ≡ []) → SpellsBy image segments log → ShowsLog (log.records ≡ []) fresh image log.first log.records
 base_shows {fresh = fresh} image segments log empty p =
     let t = told p.older p.looked segments (all_records segments) refl p.each p.follow p.enough in
-    subst (λ (l : Log). Shows (l.records ≡ []) fresh image l.first l.records) (sym p.shown) (record {
+    subst (λ (l : Log). ShowsLog (l.records ≡ []) fresh image l.first l.records) (sym p.shown) (record {
       rising = p.rising;
       older = p.older;
       looked = p.looked;
@@ -468,28 +468,28 @@ base_shows {fresh = fresh} image segments log empty p =
     })
 
 -- the first LSN of a spelled log is the lowest that its newest record names
-pub base_lowest : (image : Image) (segments : List Segment) (log : Log) → SpellsBy image segments log → log.first ≡ named_lowest log.records
+pub base_lowest : (image : FileList) (segments : List WholeSegment) (log : Log) → SpellsBy image segments log → log.first ≡ named_lowest log.records
 base_lowest image segments log p =
     subst (λ (l : Log). l.first ≡ named_lowest l.records) (sym p.shown) (told p.older p.looked segments (all_records segments) refl p.each p.follow p.enough).lowest
 
 -- ---- a log that is shown is spelled from its lowest on
 
 -- segments in two parts: from the greatest on that begins at or below the lowest, and those before it
-record Split (lowest : ℕ) (segments : List Segment) : Type 0 where
-  before : List Segment
-  behind : List Segment
+record Split (lowest : ℕ) (segments : List WholeSegment) : Type 0 where
+  before : List WholeSegment
+  behind : List WholeSegment
   is : segments ≡ before ++ behind
   reaches : IsTrue (first_alone_reaches lowest behind)
 
 -- behind an LSN above the lowest no segment begins at or below it
-above : (lowest n : ℕ) (segments : List Segment) → IsTrue (follow_from n segments) → lowest < n → IsTrue (list_all (λ (t : Segment). nat_lt lowest t.first) segments)
+above : (lowest n : ℕ) (segments : List WholeSegment) → IsTrue (follow_from n segments) → lowest < n → IsTrue (list_all (λ (t : WholeSegment). nat_lt lowest t.first) segments)
 above lowest n [] follow lt = refl
 above lowest n (s ∷ segments) follow lt =
     let parts = and_parts (nat_eq s.first n) (follow_from (end_of s) segments) follow in
     let is : s.first ≡ n = eqb-true s.first n parts.0 in
     and_from _ _ (lt-ltb lowest s.first (omega (arith, is, lt))) (above lowest (end_of s) segments parts.1 (omega (arith, is, lt)))
 
-split : (lowest n : ℕ) (s : Segment) (segments : List Segment) → IsTrue (follow_from n (s ∷ segments)) → n ≤ lowest → Split lowest (s ∷ segments)
+split : (lowest n : ℕ) (s : WholeSegment) (segments : List WholeSegment) → IsTrue (follow_from n (s ∷ segments)) → n ≤ lowest → Split lowest (s ∷ segments)
 split lowest n s [] follow le =
     let parts = and_parts (nat_eq s.first n) true follow in
     record { before = []; behind = s ∷ []; is = refl; reaches = and_from _ _ (le-leb s.first lowest (omega (arith, le, eqb-true s.first n parts.0))) refl }
@@ -500,25 +500,25 @@ split lowest n s (t ∷ segments) follow le =
       | inl lt ↦ record { before = []; behind = s ∷ t ∷ segments; is = refl; reaches = and_from _ _ here (above lowest (end_of s) (t ∷ segments) parts.1 lt) }
       | inr more ↦
           let rest = split lowest (end_of s) t segments parts.1 more in
-          record { before = s ∷ rest.before; behind = rest.behind; is = ap (λ (x : List Segment). s ∷ x) rest.is; reaches = rest.reaches }
+          record { before = s ∷ rest.before; behind = rest.behind; is = ap (λ (x : List WholeSegment). s ∷ x) rest.is; reaches = rest.reaches }
     ]
 
-split_all : (lowest : ℕ) (segments : List Segment) → IsTrue (follow_from (first_of segments) segments) → first_of segments ≤ lowest → (all_records segments ≡ [] → ⊥) → Split lowest segments
+split_all : (lowest : ℕ) (segments : List WholeSegment) → IsTrue (follow_from (first_of segments) segments) → first_of segments ≤ lowest → (all_records segments ≡ [] → ⊥) → Split lowest segments
 split_all lowest [] follow le some = absurd (some refl)
 split_all lowest (s ∷ segments) follow le some = split lowest s.first s segments follow le
 
-starts_at : (lowest n : ℕ) (segments : List Segment) → IsTrue (first_alone_reaches lowest segments) → IsTrue (follow_from n segments) → first_of segments ≡ n
+starts_at : (lowest n : ℕ) (segments : List WholeSegment) → IsTrue (first_alone_reaches lowest segments) → IsTrue (follow_from n segments) → first_of segments ≡ n
 starts_at lowest n [] reaches follow = absurd cc
 starts_at lowest n (s ∷ segments) reaches follow = eqb-true s.first n (and_parts (nat_eq s.first n) (follow_from (end_of s) segments) follow).0
 
 -- the files of the second part
-record Apart (looked : List File) (behind : List Segment) : Type 0 where
+record Apart (looked : List File) (behind : List WholeSegment) : Type 0 where
   front : List File
   back : List File
   is : looked ≡ front ++ back
   each : AllZip IsSegment back behind
 
-apart : (looked : List File) (before behind : List Segment) → AllZip IsSegment looked (before ++ behind) → Apart looked behind
+apart : (looked : List File) (before behind : List WholeSegment) → AllZip IsSegment looked (before ++ behind) → Apart looked behind
 apart looked [] behind each = record { front = []; back = looked; is = refl; each = each }
 apart [] (s ∷ before) behind each = absurd each
 apart (f ∷ looked) (s ∷ before) behind each =
@@ -528,13 +528,13 @@ apart (f ∷ looked) (s ∷ before) behind each =
 same_log : (first other : ℕ) (records others : List Record) → named_lowest records ≡ named_lowest others → drop (named_lowest records - first) records ≡ drop (named_lowest others - other) others → from_lowest first records ≡ from_lowest other others
 same_log first other records others p q i = record { first = p i; records = q i }
 
-module _ {alone fresh : Type 0} (image : Image) (first : ℕ) (records : List Record) (s : Shows alone fresh image first records) where
+module _ {alone fresh : Type 0} (image : FileList) (first : ℕ) (records : List Record) (s : ShowsLog alone fresh image first records) where
   none_spelled : records ≡ [] → Spells image (from_lowest first records)
   none_spelled none =
       let whole = s.alone_is (s.whole none) in
       let nothing : all_records s.segments ≡ [] = s.shown ∙ ap (λ (x : List Record). x ++ records) whole.1 ∙ none in
       let one : first_of s.segments ≡ 1 = omega (arith, s.begins, whole.2, ap length whole.1) in
-      let enough : IsTrue (are_enough s.older s.segments []) = subst (λ (x : Image). IsTrue (are_enough x s.segments [])) (sym whole.0) (eq-eqb (first_of s.segments) 1 one) in (
+      let enough : IsTrue (are_enough s.older s.segments []) = subst (λ (x : FileList). IsTrue (are_enough x s.segments [])) (sym whole.0) (eq-eqb (first_of s.segments) 1 one) in (
         s.segments,
         record {
           rising = s.rising;
@@ -566,7 +566,7 @@ module _ {alone fresh : Type 0} (image : Image) (first : ℕ) (records : List Re
     all_are = ap all_records parts.is ∙ all_records-append parts.before parts.behind
 
     follow_back : IsTrue (follow_from (first_of s.segments + length (all_records parts.before)) parts.behind)
-    follow_back = follow_behind (first_of s.segments) parts.before parts.behind (subst (λ (x : List Segment). IsTrue (follow_from (first_of s.segments) x)) parts.is s.follow)
+    follow_back = follow_behind (first_of s.segments) parts.before parts.behind (subst (λ (x : List WholeSegment). IsTrue (follow_from (first_of s.segments) x)) parts.is s.follow)
 
     begins_back : first_of parts.behind ≡ first_of s.segments + length (all_records parts.before)
     begins_back = starts_at (named_lowest records) (first_of s.segments + length (all_records parts.before)) parts.behind parts.reaches follow_back
@@ -600,7 +600,7 @@ module _ {alone fresh : Type 0} (image : Image) (first : ℕ) (records : List Re
         ∙ ap (λ (n : ℕ). drop n (all_records parts.before ++ all_records parts.behind)) e ∙ drop-append-add (all_records parts.before) (all_records parts.behind) j
 
     files_back : Apart s.looked parts.behind
-    files_back = apart s.looked parts.before parts.behind (subst (λ (x : List Segment). AllZip IsSegment s.looked x) parts.is s.each)
+    files_back = apart s.looked parts.before parts.behind (subst (λ (x : List WholeSegment). AllZip IsSegment s.looked x) parts.is s.each)
 
     some_spelled : Spells image (from_lowest first records)
     some_spelled = (
@@ -609,7 +609,7 @@ module _ {alone fresh : Type 0} (image : Image) (first : ℕ) (records : List Re
         rising = s.rising;
         older = s.older ++ files_back.front;
         looked = files_back.back;
-        files = append_assoc s.older files_back.front files_back.back ∙ ap (λ (x : Image). s.older ++ x) (sym files_back.is) ∙ s.files;
+        files = append_assoc s.older files_back.front files_back.back ∙ ap (λ (x : FileList). s.older ++ x) (sym files_back.is) ∙ s.files;
         each = files_back.each;
         follow = subst (λ (n : ℕ). IsTrue (follow_from n parts.behind)) (sym begins_back) follow_back;
         enough = enough_from (s.older ++ files_back.front) parts.behind (all_records parts.behind) some_back (subst (λ (n : ℕ). IsTrue (first_alone_reaches n parts.behind)) named_back parts.reaches);
@@ -618,6 +618,6 @@ module _ {alone fresh : Type 0} (image : Image) (first : ℕ) (records : List Re
     )
 
 -- the log is spelled from the lowest on that its newest record names, where it is shown from there on
-pub spells : {alone fresh : Type 0} (image : Image) (first : ℕ) (records : List Record) → Shows alone fresh image first records → ((records ≡ [] → ⊥) → first ≤ named_lowest records) → Spells image (from_lowest first records)
+pub spells : {alone fresh : Type 0} (image : FileList) (first : ℕ) (records : List Record) → ShowsLog alone fresh image first records → ((records ≡ [] → ⊥) → first ≤ named_lowest records) → Spells image (from_lowest first records)
 spells image first [] s le = none_spelled image first [] s refl
 spells image first (r ∷ rs) s le = some_spelled image first (r ∷ rs) s (λ e. cc) (le (λ e. cc))

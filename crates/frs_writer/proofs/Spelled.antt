@@ -4,7 +4,7 @@ use Rattle.std.proofs.Math.Seq.{take-append-add}
 use Rattle.std.proofs.lemmas.List.{length-map}
 use Rattle.std.specs.FinMap.{entries}
 use Rattle.frs_types.specs.declared.record.Record.{Record}
-use Rattle.frs_types.specs.Records.{Log, Placed, next_lsn, placed_from, named_lowest}
+use Rattle.frs_types.specs.Records.{Log, IsPlaced, next_lsn, are_placed_from, named_lowest}
 use Rattle.frs_disk.specs.Disk.{Image, IsSynced}
 use Rattle.frs_frame.specs.Spelling.{spelling}
 use Rattle.frs_segment.specs.Segments.{Spells}
@@ -18,7 +18,7 @@ use Rattle.frs_writer.proofs.Segments.{newest_number}
 use Rattle.frs_writer.proofs.Showing.{spells, base_lowest, rests_shows}
 
 module _ {D : Type 0} (tells : D → Bool) (reads : D → Image) (may_leave : D → Image → Type 0) (removing : D → ℕ → Type 0) (w : WriterView D) (kept : IsKept tells reads may_leave removing w)
-    (told : IsTrue (tells w.disk)) (well : IsWellOpened reads may_leave w.opened) (log : Log) (is_log : IsLog reads w log) (placed : Placed log) where
+    (told : IsTrue (tells w.disk)) (well : IsWellOpened reads may_leave w.opened) (log : Log) (is_log : IsLog reads w log) (placed : IsPlaced log) where
   held : Holds reads may_leave w log
   held = kept.holds told well log is_log placed
 
@@ -29,8 +29,8 @@ module _ {D : Type 0} (tells : D → Bool) (reads : D → Image) (may_leave : D 
       let more : List Record = take (k - length base) is_log.taken in
       let parts : take k log.records ≡ base ++ more =
       ap (λ (l : Log). take k l.records) is_log.is ∙ ap (λ (n : ℕ). take n (base ++ is_log.taken)) (omega (arith, enough)) ∙ take-append-add base is_log.taken (k - length base) in
-      let all : placed_from 0 log.first (take k log.records ++ drop k log.records) ≡ true = subst (λ (l : List Record). placed_from 0 log.first l ≡ true) (sym (take-append-drop k log.records)) placed in
-      let front : placed_from 0 log.first (base ++ more) ≡ true = subst (λ (l : List Record). placed_from 0 log.first l ≡ true) parts (placed_front 0 log.first (take k log.records) (drop k log.records) all) in
+      let all : are_placed_from 0 log.first (take k log.records ++ drop k log.records) ≡ true = subst (λ (l : List Record). are_placed_from 0 log.first l ≡ true) (sym (take-append-drop k log.records)) placed in
+      let front : are_placed_from 0 log.first (base ++ more) ≡ true = subst (λ (l : List Record). are_placed_from 0 log.first l ≡ true) parts (placed_front 0 log.first (take k log.records) (drop k log.records) all) in
       let first : log.first ≡ named_lowest base = ap (λ (l : Log). l.first) is_log.is ∙ base_lowest (entries (reads w.opened)) is_log.spelled.0 is_log.base is_log.spelled.1 in
       subst (λ (l : List Record). log.first ≤ named_lowest l) (sym parts) (first_below 0 log.first log.first base more front first (λ none. some (parts ∙ none)))
 
@@ -61,6 +61,6 @@ newest_synced tells reads may_leave removing w kept fine told =
 -- a writer that was left as it was
 pub unchanged_spells : {D : Type 0} (tells : D → Bool) (reads : D → Image) (may_leave : D → Image → Type 0) (removing : D → ℕ → Type 0) (moment : D → ℕ) (left_since : D → ℕ → Image → Type 0)
     (only_now : (disk : D) (c : Image) → left_since disk (moment disk) c → may_leave disk c) (w : WriterView D) (kept : IsKept tells reads may_leave removing w)
-    → IsTrue (tells w.disk) → IsWellOpened reads may_leave w.opened → (log : Log) → IsLog reads w log → Placed log → (c : Image) → left_since w.disk (moment w.disk) c → SpellsFrom w.synced log c
+    → IsTrue (tells w.disk) → IsWellOpened reads may_leave w.opened → (log : Log) → IsLog reads w log → IsPlaced log → (c : Image) → left_since w.disk (moment w.disk) c → SpellsFrom w.synced log c
 unchanged_spells tells reads may_leave removing moment left_since only_now w kept told well log is_log placed c left =
     spells_from tells reads may_leave removing w kept told well log is_log placed w.synced kept.counted.first c ((kept.holds told well log is_log placed).each c (only_now w.disk c left))

@@ -5,9 +5,9 @@ use Rattle.std.specs.FinMap.{get, entries}
 use Rattle.frs_types.specs.declared.record.Record.{Record}
 use Rattle.frs_disk.specs.Disk.{Image, SameElsewhere}
 use Rattle.frs_segment.specs.Front.{IsInTheMaking, empty_segment}
-use Rattle.frs_segment.specs.Segments.{Segment, segment_spelling, chunk_bytes, body, is_chunk, end_of}
+use Rattle.frs_segment.specs.Segments.{WholeSegment, segment_spelling, chunk_bytes, body, is_chunk, end_of}
 use Rattle.frs_writer.specs.Appending.{IsShut, sealed}
-use Rattle.frs_writer.specs.Shown.{Shows, Rests, TakesNext, with_chunk, new_segment}
+use Rattle.frs_writer.specs.Shown.{ShowsLog, Rests, TakesNext, with_chunk, new_segment}
 use Rattle.frs_writer.proofs.Showing.{rests_shows, rests_shut, rests_chunk, chunk_spelling, shows_half, shows_next}
 use Rattle.frs_writer.proofs.Images.{changed_last, added_last, nothing_added, rising}
 
@@ -23,12 +23,12 @@ sealed_chunk first rs =
     ∙ sym (append_assoc (to_be_bytes w32 (length rs)) (to_be_bytes w64 first ++ body rs) (0 ∷ [])))
     ∙ ap (λ (l : List ℕ). 1 ∷ l) (sym (append_assoc (to_be_bytes w32 (length (body rs))) (to_be_bytes w32 (length rs) ++ to_be_bytes w64 first ++ body rs) (0 ∷ [])))
 
-module _ {alone fresh : Type 0} (first : ℕ) (records : List Record) (last : Segment) (d c : Image) (rests : Rests alone fresh (entries d) first records last) (same : SameElsewhere last.number d c) where
+module _ {alone fresh : Type 0} (first : ℕ) (records : List Record) (last : WholeSegment) (d c : Image) (rests : Rests alone fresh (entries d) first records last) (same : SameElsewhere last.number d c) where
   -- the last file with a closed gate in its place
-  pub one_shut : IsShut (segment_spelling last) (get c last.number) → Shows alone fresh (entries c) first records
+  pub one_shut : IsShut (segment_spelling last) (get c last.number) → ShowsLog alone fresh (entries c) first records
   one_shut shut = at (get c last.number) refl shut
     where
-      at : (file : Option (List ℕ)) → get c last.number ≡ file → IsShut (segment_spelling last) file → Shows alone fresh (entries c) first records
+      at : (file : Option (List ℕ)) → get c last.number ≡ file → IsShut (segment_spelling last) file → ShowsLog alone fresh (entries c) first records
       at None is shut = absurd shut
       at (Some b) is (gate, other, begins) =
           let bytes : b ≡ segment_spelling last ++ gate ∷ drop (length (segment_spelling last) + 1) b = split_shut (segment_spelling last) b gate begins in
@@ -46,18 +46,18 @@ module _ {alone fresh : Type 0} (first : ℕ) (records : List Record) (last : Se
       rests_chunk rests rs chunk within (entries c) (rising c)
       (changed_last c d last.number (segment_spelling last ++ 0 ∷ []) rests.front same rests.files (segment_spelling (with_chunk last rs) ++ 0 ∷ []) (is ∙ ap Some bytes))
 
-module _ {alone fresh : Type 0} (first : ℕ) (records : List Record) (n f : ℕ) (d c : Image) (shows : Shows alone fresh (entries d) first records)
+module _ {alone fresh : Type 0} (first : ℕ) (records : List Record) (n f : ℕ) (d c : Image) (shows : ShowsLog alone fresh (entries d) first records)
     (takes : fresh → TakesNext n (first + length records) (entries d) shows.segments) (same : SameElsewhere n d c) (none : (q : ℕ) → n ≤ q → get d q ≡ None) where
   -- the next segment, whole
   pub one_next : f ≡ first + length records → 1 ≤ n → n < 2 ^ 62 → 1 ≤ f → f < 2 ^ 62 → get c n ≡ Some (empty_segment n f) → Rests alone fresh (entries c) first records (new_segment n f)
   one_next is low high least most file = shows_next shows n f takes is low high least most (entries c) (rising c) (added_last c d n same none (empty_segment n f) file)
 
   -- or in the making
-  pub one_making : f ≡ first + length records → 1 ≤ n → n < 2 ^ 62 → 1 ≤ f → f < 2 ^ 62 → IsInTheMaking n f (get c n) → Shows alone fresh (entries c) first records
+  pub one_making : f ≡ first + length records → 1 ≤ n → n < 2 ^ 62 → 1 ≤ f → f < 2 ^ 62 → IsInTheMaking n f (get c n) → ShowsLog alone fresh (entries c) first records
   one_making is low high least most making = at (get c n) refl making
     where
-      at : (file : Option (List ℕ)) → get c n ≡ file → IsInTheMaking n f file → Shows alone fresh (entries c) first records
-      at None file making = subst (λ (l : _). Shows alone fresh l first records) (sym (nothing_added c d n same (none n (omega arith)) file)) shows
+      at : (file : Option (List ℕ)) → get c n ≡ file → IsInTheMaking n f file → ShowsLog alone fresh (entries c) first records
+      at None file making = subst (λ (l : _). ShowsLog alone fresh l first records) (sym (nothing_added c d n same (none n (omega arith)) file)) shows
       at (Some b) file making = ⊎_elim
           (λ half. shows_half shows n takes b half (entries c) (rising c) (added_last c d n same none b file))
           (λ whole. rests_shows (one_next is low high least most (file ∙ ap Some whole)))

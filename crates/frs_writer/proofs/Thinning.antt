@@ -6,7 +6,7 @@ use Rattle.std.proofs.lemmas.List.Kept.{AllPairs-from_increasing}
 use Rattle.std.proofs.lemmas.Bool.{cases_eq, cases_lt}
 use Rattle.std.proofs.lemmas.List.Elements.{All-from_get_or}
 use Rattle.std.specs.FinMap.{get}
-use Rattle.frs_disk.specs.Disk.{Image, SameElsewhere, Changes, Removed, Follows, Passes, Within, Elapses}
+use Rattle.frs_disk.specs.Disk.{Image, SameElsewhere, ChangesFile, Removed, Follows, Passes, Within, Elapses}
 use Rattle.frs_disk.proofs.Moments.{within_call, within_join}
 use Rattle.frs_segment.specs.Front.{IsInTheMaking}
 use Rattle.frs_writer.specs.Opening.{Thinned, IsThinned, IsOpening}
@@ -17,7 +17,7 @@ pub thin_none : (numbers : List ℕ) (a : Image) → Thinned numbers a a
 thin_none numbers a q = inl refl
 
 -- one of the files more
-pub thin_more : (numbers : List ℕ) (n : ℕ) → Contains numbers n → (a b c : Image) → Thinned numbers a b → Changes n Removed b c → Thinned numbers a c
+pub thin_more : (numbers : List ℕ) (n : ℕ) → Contains numbers n → (a b c : Image) → Thinned numbers a b → ChangesFile n Removed b c → Thinned numbers a c
 thin_more numbers n has a b c so_far step q = elim (cases_eq q n) [
   | inl is ↦ ⊎_elim (λ same. carry (ap (get c) is ∙ same ∙ ap (get b) (sym is)) (so_far q)) (λ gone. inr (subst (Contains numbers) (sym is) has, ap (get c) is ∙ gone)) step.file
   | inr other ↦ carry (step.others q other) (so_far q)
@@ -28,7 +28,7 @@ thin_more numbers n has a b c so_far step q = elim (cases_eq q n) [
 
 -- the files behind it are there as before
 pub still_there : (numbers : List ℕ) → IsStrictlyIncreasing numbers → (i : ℕ) (b c : Image) → ((k : ℕ) → i ≤ k → k < length numbers → IsSome (get b (slice_index numbers k)))
-    → Changes (slice_index numbers i) Removed b c → (k : ℕ) → i + 1 ≤ k → k < length numbers → IsSome (get c (slice_index numbers k))
+    → ChangesFile (slice_index numbers i) Removed b c → (k : ℕ) → i + 1 ≤ k → k < length numbers → IsSome (get c (slice_index numbers k))
 still_there numbers rising i b c left step k le lt = subst IsSome (sym (step.others (slice_index numbers k) other)) (left k (omega arith) lt)
   where
     other : slice_index numbers k ≢ slice_index numbers i
@@ -36,7 +36,7 @@ still_there numbers rising i b c left step k le lt = subst IsSome (sym (step.oth
 
 -- the files up to it are gone
 pub gone_more : (numbers : List ℕ) → IsStrictlyIncreasing numbers → (i : ℕ) → i < length numbers → (b c : Image) → ((k : ℕ) → k < i → get b (slice_index numbers k) ≡ None)
-    → Changes (slice_index numbers i) Removed b c → get c (slice_index numbers i) ≡ None → (k : ℕ) → k < i + 1 → get c (slice_index numbers k) ≡ None
+    → ChangesFile (slice_index numbers i) Removed b c → get c (slice_index numbers i) ≡ None → (k : ℕ) → k < i + 1 → get c (slice_index numbers k) ≡ None
 gone_more numbers rising i inside b c so_far step gone k lt = elim (cases_lt k i) [
   | inl less ↦ step.others (slice_index numbers k) (λ same. omega (arith, AllPairs-from_increasing numbers rising k i 0 less inside, same)) ∙ so_far k less
   | inr most ↦ let same : k ≡ i = omega (arith, lt, most) in ap (λ (n : ℕ). get c (slice_index numbers n)) same ∙ gone
@@ -50,7 +50,7 @@ module _ {D : Type 0} (moment : D → ℕ) (left_since : D → ℕ → Image →
   thin_start old only c left = (c, only c left, thin_none numbers c)
 
   pub thin_step : (n : ℕ) → Contains numbers n → (old mid new : D) → Passes moment left_since old mid → ((c : Image) → may_leave mid c → left_since mid (moment old) c)
-      → Within moment left_since old mid (IsThinned numbers (may_leave old)) → Elapses moment left_since may_leave mid new → Follows (Changes n Removed) (may_leave mid) (may_leave new)
+      → Within moment left_since old mid (IsThinned numbers (may_leave old)) → Elapses moment left_since may_leave mid new → Follows (ChangesFile n Removed) (may_leave mid) (may_leave new)
       → Within moment left_since old new (IsThinned numbers (may_leave old))
   thin_step n has old mid new first counts so_far time follows =
       within_join moment left_since old mid new (IsThinned numbers (may_leave old)) first time.passes so_far

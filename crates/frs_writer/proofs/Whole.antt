@@ -3,25 +3,25 @@ use Rattle.std.proofs.Common.{◌≡◌, ℕ, ◌+◌, ◌-◌, Bool, List, [], 
 use Rattle.std.specs.List.{AllZip}
 use Rattle.std.specs.FinMap.{entries}
 use Rattle.frs_types.specs.declared.record.Record.{Record}
-use Rattle.frs_types.specs.Records.{Log, Placed}
+use Rattle.frs_types.specs.Records.{Log, IsPlaced}
 use Rattle.frs_disk.specs.Disk.{Image, Within, LeftNoFile}
 use Rattle.frs_segment.specs.Order.{IsInOrder}
 use Rattle.frs_segment.proofs.Order.{none_half}
-use Rattle.frs_segment.specs.Segments.{Image as Files, Segment, IsSegment, open_files, Spells, follow_from}
+use Rattle.frs_segment.specs.Segments.{FileList, WholeSegment, IsSegment, open_files, Spells, follow_from}
 use Rattle.frs_writer.specs.Holds.{ShowsFrom, IsKept}
-use Rattle.frs_writer.specs.Shown.{Shows, Rests}
+use Rattle.frs_writer.specs.Shown.{ShowsLog, Rests}
 use Rattle.frs_writer.specs.Writer.{WriterView, IsLog, WasEmpty, IsWellOpened}
 use Rattle.frs_writer.specs.Writing.{HoldsAll, HoldsLog, HoldsFrom}
 use Rattle.frs_writer.proofs.Showing.{base_shows, rests_shows, rests_open}
 
-module _ {alone fresh : Type 0} (image : Files) (first : ℕ) (records : List Record) (s : Shows alone fresh image first records) (is : alone) where
+module _ {alone fresh : Type 0} (image : FileList) (first : ℕ) (records : List Record) (s : ShowsLog alone fresh image first records) (is : alone) where
   shows_all : HoldsAll image records
   shows_all =
       let (none, start, one) = s.alone_is is in
       record {
         rising = s.rising;
         segments = s.segments;
-        each = subst (λ (files : Files). AllZip IsSegment files s.segments) (sym (ap (λ (x : Files). x ++ s.looked) none) ∙ s.files) s.each;
+        each = subst (λ (files : FileList). AllZip IsSegment files s.segments) (sym (ap (λ (x : FileList). x ++ s.looked) none) ∙ s.files) s.each;
         follow = subst (λ (n : ℕ). IsTrue (follow_from n s.segments)) (omega (arith, s.begins, one, ap length start)) s.follow;
         shown = s.shown ∙ ap (λ (x : List Record). x ++ records) start;
       }
@@ -39,12 +39,12 @@ module _ {alone fresh : Type 0} (image : Files) (first : ℕ) (records : List Re
   shows_open all_open = (shows_all, λ f. record { all = shows_all; order = none_half 0 (length records + 1) image s.segments (all_open f) (shows_order f) })
 
 -- the records up to the LSN n are n
-shows_first : {alone fresh : Type 0} (n : ℕ) (log : Log) (image : Files) → Shows alone fresh image log.first (take (n + 1 - log.first) log.records) → alone → HoldsLog fresh 1 image (take n log.records)
+shows_first : {alone fresh : Type 0} (n : ℕ) (log : Log) (image : FileList) → ShowsLog alone fresh image log.first (take (n + 1 - log.first) log.records) → alone → HoldsLog fresh 1 image (take n log.records)
 shows_first {fresh = fresh} n log image s is =
     let one : log.first ≡ 1 = (s.alone_is is).2 in
     subst (λ (k : ℕ). HoldsLog fresh 1 image (take k log.records)) (omega (arith, one)) (shows_whole image log.first (take (n + 1 - log.first) log.records) s is)
 
-rests_first : {alone fresh : Type 0} (n : ℕ) (log : Log) (image : Files) (last : Segment) → Rests alone fresh image log.first (take (n + 1 - log.first) log.records) last → alone → HoldsLog fresh 0 image (take n log.records)
+rests_first : {alone fresh : Type 0} (n : ℕ) (log : Log) (image : FileList) (last : WholeSegment) → Rests alone fresh image log.first (take (n + 1 - log.first) log.records) last → alone → HoldsLog fresh 0 image (take n log.records)
 rests_first {fresh = fresh} n log image last r is =
     let one : log.first ≡ 1 = (r.alone_is is).2 in
     subst (λ (k : ℕ). HoldsLog fresh 0 image (take k log.records)) (omega (arith, one)) (shows_open image log.first (take (n + 1 - log.first) log.records) (rests_shows r) is (rests_open r))
@@ -53,11 +53,11 @@ pub from_whole : {alone fresh : Type 0} (synced : ℕ) (log : Log) (c : Image) �
 from_whole synced log c (n, least, most, shows) is = (n, least, most, shows_first n log (entries c) shows is)
 
 -- an image that spells the empty log
-pub spelled_none : {fresh : Type 0} (image : Files) → (fresh → image ≡ []) → Spells image (record { first = 1; records = [] }) → HoldsLog fresh 1 image []
+pub spelled_none : {fresh : Type 0} (image : FileList) → (fresh → image ≡ []) → Spells image (record { first = 1; records = [] }) → HoldsLog fresh 1 image []
 spelled_none image none (segments, by) = shows_whole image 1 [] (base_shows image segments (record { first = 1; records = [] }) none by) refl
 
 module _ {D : Type 0} (tells : D → Bool) (reads : D → Image) (may_leave : D → Image → Type 0) (removing : D → ℕ → Type 0) (w : WriterView D) (kept : IsKept tells reads may_leave removing w)
-    (told : IsTrue (tells w.disk)) (well : IsWellOpened reads may_leave w.opened) (log : Log) (is_log : IsLog reads w log) (placed : Placed log) (empty : WasEmpty reads w.opened) where
+    (told : IsTrue (tells w.disk)) (well : IsWellOpened reads may_leave w.opened) (log : Log) (is_log : IsLog reads w log) (placed : IsPlaced log) (empty : WasEmpty reads w.opened) where
   -- what is durable, where nothing was cut short
   pub durable_whole : w.ended ≡ None → (c : Image) → may_leave w.disk c → HoldsLog (LeftNoFile may_leave w.opened) 0 (entries c) (take w.synced log.records)
   durable_whole fine c left =

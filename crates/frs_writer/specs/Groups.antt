@@ -11,12 +11,12 @@ use Rattle.frs_writer.specs.Chunk.{ChunkView}
 use Rattle.frs_writer.specs.Places.{grown}
 
 -- the bytes of records, one after another
-abbrev pub joined : List (List ℕ) → List ℕ
-joined group = flat_map (λ (bytes : List ℕ). bytes) group
+abbrev pub joined_records : List (List ℕ) → List ℕ
+joined_records group = flat_map (λ (bytes : List ℕ). bytes) group
 
 -- with this record behind them the records would have more than 1 MiB
 abbrev pub IsTooLong : List (List ℕ) → List ℕ → Type 0
-IsTooLong group bytes = 2 ^ 20 < length (joined group) + length bytes
+IsTooLong group bytes = 2 ^ 20 < length (joined_records group) + length bytes
 
 -- So far these records were taken into a chunk, behind the one that was kept from before.
 pub record Gathered (before now : TakerView) (kept : Option (List ℕ)) (group : List (List ℕ)) : Type 0 where
@@ -27,11 +27,11 @@ pub record Gathered (before now : TakerView) (kept : Option (List ℕ)) (group :
   pub taken : List (List ℕ)
   pub taken_are : now.taken ≡ before.taken ++ taken
   pub group_is : group ≡ option_to_list kept ++ taken
-  pub fits : length (joined group) ≤ 2 ^ 20
+  pub fits : length (joined_records group) ≤ 2 ^ 20
 
 -- The records of one chunk, at most so many: the one that was kept before, and then those that were taken. They end at
 -- the limit, or before a record that doesn't fit, which was taken and is kept, or where no more are known.
-pub record Gathers (limit : ℕ) (before now : TakerView) (kept still : Option (List ℕ)) (group : List (List ℕ)) : Type 0 where
+pub record GathersGroup (limit : ℕ) (before now : TakerView) (kept still : Option (List ℕ)) (group : List (List ℕ)) : Type 0 where
   pub ring : (now.ring ≡ before.ring) × (now.first ≡ before.first)
   pub known : before.known ≤ now.known
   pub sure : before.sure ≤ now.sure
@@ -40,13 +40,13 @@ pub record Gathers (limit : ℕ) (before now : TakerView) (kept still : Option (
   pub taken_are : now.taken ≡ before.taken ++ taken
   pub group_is : group ++ option_to_list still ≡ option_to_list kept ++ taken
   pub most : length group ≤ limit
-  pub fits : length (joined group) ≤ 2 ^ 20
+  pub fits : length (joined_records group) ≤ 2 ^ 20
   pub too_long : IfSome still (λ bytes. IsTooLong group bytes × (length bytes ≤ 65883))
   pub stops : (length group ≡ limit) ⊎ ((still ≡ None) → now.known ≡ length now.taken)
 
 -- the chunk has these records, and its head isn't written yet
 abbrev pub HasGroup : ChunkView → List (List ℕ) → Type 0
-HasGroup chunk group = chunk ≡ record { count = length group; bytes = replicate 16 0 ++ joined group }
+HasGroup chunk group = chunk ≡ record { count = length group; bytes = replicate 16 0 ++ joined_records group }
 
 -- One more record was taken, and is in the chunk.
 pub record Added (before now : TakerView) (chunk after : ChunkView) : Type 0 where
@@ -73,10 +73,10 @@ pub record PutsGroup {D : Type 0} (tells : D → Bool) (reads : D → Image) (ma
   pub elsewhere : Within moment left_since old new (AgreesElsewhere before.number (may_leave old))
   pub others : IsTrue (tells old) → SameElsewhere before.number (reads old) (reads new)
   pub images : IsTrue (tells old) → Within moment left_since old new (λ c. IsShut (take (before.length - 1) (bytes_at (reads old) before.number)) (get c before.number)
-      ⊎ (get c before.number ≡ Some (take (before.length - 1) (bytes_at (reads old) before.number) ++ 1 ∷ sealed before.«end» (length group) (joined group))))
+      ⊎ (get c before.number ≡ Some (take (before.length - 1) (bytes_at (reads old) before.number) ++ 1 ∷ sealed before.«end» (length group) (joined_records group))))
   pub counted : IfOk result (λ count. count ≡ length group)
-  pub grown_is : OnOk result (after ≡ grown (length group) (length (joined group)) before)
+  pub grown_is : OnOk result (after ≡ grown (length group) (length (joined_records group)) before)
   pub durable : OnOk result (IsSynced reads may_leave new before.number)
   pub written : OnOk result (IsTrue (tells old)
-      → get (reads new) before.number ≡ Some (take (before.length - 1) (bytes_at (reads old) before.number) ++ 1 ∷ sealed before.«end» (length group) (joined group)))
+      → get (reads new) before.number ≡ Some (take (before.length - 1) (bytes_at (reads old) before.number) ++ 1 ∷ sealed before.«end» (length group) (joined_records group)))
   pub refused : OnErr result (after ≡ before)

@@ -3,14 +3,14 @@
 use Rattle.std.specs.Prelude.{◌≡◌, ℕ, ◌+◌, ◌-◌, ◌^◌, ◌<◌, ◌≤◌, Bool, List, [], ◌∷◌, ◌++◌, length, map, take, None, IsTrue, All}
 use Rattle.std.specs.Option.{option_to_list}
 use Rattle.std.specs.FinMap.{entries, get}
-use Rattle.frs_types.specs.Records.{Log, Placed, next_lsn}
-use Rattle.frs_disk.specs.Disk.{Image as Disk, IsNumber, IsSynced, LeftNoFile}
-use Rattle.frs_segment.specs.declared.layout.Segment.{Segment as Described}
-use Rattle.frs_segment.specs.Segments.{Image, Segment}
-use Rattle.frs_segment.specs.Scanning.{described}
+use Rattle.frs_types.specs.Records.{Log, IsPlaced, next_lsn}
+use Rattle.frs_disk.specs.Disk.{Image, IsNumber, IsSynced, LeftNoFile}
+use Rattle.frs_segment.specs.declared.layout.Segment.{Segment}
+use Rattle.frs_segment.specs.Segments.{FileList, WholeSegment}
+use Rattle.frs_segment.specs.Scanning.{places_of_segment}
 use Rattle.frs_slots.specs.Views.{next_taken}
 use Rattle.frs_writer.specs.Appending.{IsAtGate}
-use Rattle.frs_writer.specs.Shown.{Shows, Rests}
+use Rattle.frs_writer.specs.Shown.{ShowsLog, Rests}
 use Rattle.frs_writer.specs.Writer.{WriterView, IsLog, WasEmpty, IsWellOpened}
 
 -- ---- numbers
@@ -22,8 +22,8 @@ AreWritten w = (written : List (List ℕ)) × (w.taker.taken ≡ written ++ opti
 -- The newest segment is the last one, and the next record to be written follows it. A record that was taken is written,
 -- or kept; a write that was cut short may have lost some.
 pub record IsCounted {D : Type 0} (w : WriterView D) : Type 0 where
-  pub older : List Described
-  pub newest : Described
+  pub older : List Segment
+  pub newest : Segment
   pub segments : w.segments ≡ older ++ newest ∷ []
   pub number : IsNumber newest.number
   pub ends : newest.«end» ≡ w.synced + 1
@@ -39,7 +39,7 @@ pub record IsCounted {D : Type 0} (w : WriterView D) : Type 0 where
 -- ---- the disk
 
 -- The newest file ends in its closed gate and is durable, and no file stands above it or comes back there.
-pub record IsAtWork {D : Type 0} (reads : D → Disk) (may_leave : D → Disk → Type 0) (removing : D → ℕ → Type 0) (disk : D) (newest : Described) : Type 0 where
+pub record IsAtWork {D : Type 0} (reads : D → Image) (may_leave : D → Image → Type 0) (removing : D → ℕ → Type 0) (disk : D) (newest : Segment) : Type 0 where
   pub gate : IsAtGate (newest.length - 1) (get (reads disk) newest.number)
   pub durable : IsSynced reads may_leave disk newest.number
   pub none_above : (q : ℕ) → newest.number < q → get (reads disk) q ≡ None
@@ -48,8 +48,8 @@ pub record IsAtWork {D : Type 0} (reads : D → Disk) (may_leave : D → Disk �
 -- ---- the log
 
 -- the image shows the log up to a record that isn't before this LSN
-abbrev pub ShowsFrom : Type 0 → Type 0 → ℕ → Log → Image → Type 0
-ShowsFrom alone fresh synced log image = (n : ℕ) × (synced ≤ n) × (n < next_lsn log) × Shows alone fresh image log.first (take (n + 1 - log.first) log.records)
+abbrev pub ShowsFrom : Type 0 → Type 0 → ℕ → Log → FileList → Type 0
+ShowsFrom alone fresh synced log image = (n : ℕ) × (synced ≤ n) × (n < next_lsn log) × ShowsLog alone fresh image log.first (take (n + 1 - log.first) log.records)
 
 -- what of the log is durable
 abbrev pub durable_of : {D : Type 0} → WriterView D → Log → Log
@@ -58,17 +58,17 @@ durable_of w log = record log { records = take (w.synced + 1 - log.first) log.re
 -- Each image that a crash may leave shows what is durable. While nothing was cut short it shows that and nothing more, the
 -- newest file is the same in all of them, and the writer's segments are those that are read. The log stands alone where it
 -- was empty at the opening.
-pub record Holds {D : Type 0} (reads : D → Disk) (may_leave : D → Disk → Type 0) (w : WriterView D) (log : Log) : Type 0 where
+pub record Holds {D : Type 0} (reads : D → Image) (may_leave : D → Image → Type 0) (w : WriterView D) (log : Log) : Type 0 where
   pub next_is : next_lsn log ≡ next_taken w.taker
-  pub each : (c : Disk) → may_leave w.disk c → ShowsFrom (WasEmpty reads w.opened) (LeftNoFile may_leave w.opened) w.synced log (entries c)
-  pub newest : w.ended ≡ None → (last : Segment)
-      × ((c : Disk) → may_leave w.disk c → Rests (WasEmpty reads w.opened) (LeftNoFile may_leave w.opened) (entries c) log.first (durable_of w log).records last)
-      × ((before : List Segment) × (w.segments ≡ map described (before ++ last ∷ [])))
+  pub each : (c : Image) → may_leave w.disk c → ShowsFrom (WasEmpty reads w.opened) (LeftNoFile may_leave w.opened) w.synced log (entries c)
+  pub newest : w.ended ≡ None → (last : WholeSegment)
+      × ((c : Image) → may_leave w.disk c → Rests (WasEmpty reads w.opened) (LeftNoFile may_leave w.opened) (entries c) log.first (durable_of w log).records last)
+      × ((before : List WholeSegment) × (w.segments ≡ map places_of_segment (before ++ last ∷ [])))
 
 -- ---- all of it
 
-pub record IsKept {D : Type 0} (tells : D → Bool) (reads : D → Disk) (may_leave : D → Disk → Type 0) (removing : D → ℕ → Type 0) (w : WriterView D) : Type 0 where
+pub record IsKept {D : Type 0} (tells : D → Bool) (reads : D → Image) (may_leave : D → Image → Type 0) (removing : D → ℕ → Type 0) (w : WriterView D) : Type 0 where
   pub counted : IsCounted w
   pub told : tells w.disk ≡ tells w.opened
   pub at_work : w.ended ≡ None → IsTrue (tells w.disk) → IsAtWork reads may_leave removing w.disk counted.newest
-  pub holds : IsTrue (tells w.disk) → IsWellOpened reads may_leave w.opened → (log : Log) → IsLog reads w log → Placed log → Holds reads may_leave w log
+  pub holds : IsTrue (tells w.disk) → IsWellOpened reads may_leave w.opened → (log : Log) → IsLog reads w log → IsPlaced log → Holds reads may_leave w log

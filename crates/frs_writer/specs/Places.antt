@@ -1,27 +1,27 @@
 -- The newest of the segments, and what one more chunk makes of it.
 use Rattle.std.specs.Prelude.{ℕ, ◌+◌, ◌-◌, List, [], ◌∷◌, ◌++◌}
-use Rattle.frs_segment.specs.declared.layout.Segment.{Segment as Described}
+use Rattle.frs_segment.specs.declared.layout.Segment.{Segment}
 
 -- the number and the length of the last of these
-abbrev pub number_of_newest : List Described → ℕ
+abbrev pub number_of_newest : List Segment → ℕ
 number_of_newest [] = 0
 number_of_newest (s ∷ []) = s.number
 number_of_newest (s ∷ t ∷ segments) = number_of_newest (t ∷ segments)
 
-abbrev pub length_of_newest : List Described → ℕ
+abbrev pub length_of_newest : List Segment → ℕ
 length_of_newest [] = 0
 length_of_newest (s ∷ []) = s.length
 length_of_newest (s ∷ t ∷ segments) = length_of_newest (t ∷ segments)
 
 -- the segment with one more chunk, of so many records and bytes
-abbrev pub grown : ℕ → ℕ → Described → Described
+abbrev pub grown : ℕ → ℕ → Segment → Segment
 grown count body s = record s {
   «end» = s.«end» + count;
   length = s.length + (17 + body);
   chunks = s.chunks ++ record { offset = s.length - 1; first = s.«end»; count = count; body = body } ∷ [];
 }
 
-abbrev pub with_newest_grown : ℕ → ℕ → List Described → List Described
+abbrev pub with_newest_grown : ℕ → ℕ → List Segment → List Segment
 with_newest_grown count body [] = []
 with_newest_grown count body (s ∷ []) = grown count body s ∷ []
 with_newest_grown count body (s ∷ t ∷ segments) = s ∷ with_newest_grown count body (t ∷ segments)

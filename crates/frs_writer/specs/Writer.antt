@@ -6,7 +6,7 @@ use Rattle.frs_types.specs.Records.{Log}
 use Rattle.frs_disk.specs.declared.disk.Fault.{Fault}
 use Rattle.frs_disk.specs.Disk.{Image}
 use Rattle.frs_frame.specs.Spelling.{spelling}
-use Rattle.frs_segment.specs.declared.layout.Segment.{Segment as Described}
+use Rattle.frs_segment.specs.declared.layout.Segment.{Segment}
 use Rattle.frs_segment.specs.Segments.{Spells}
 use Rattle.frs_segment.specs.Stores.{SpellsAlike}
 use Rattle.frs_slots.specs.Views.{TakerView}
@@ -16,7 +16,7 @@ pub record WriterView (D : Type 0) : Type 0 where
   pub disk : D
   pub taker : TakerView
   pub kept : Option (List ℕ)  -- the record that was taken last, where it waits for the next chunk
-  pub segments : List Described
+  pub segments : List Segment
   pub noted : List ℕ  -- for each client the LSN that was noted as durable
   pub synced : ℕ
   pub ended : Option Fault  -- what has cut a write short

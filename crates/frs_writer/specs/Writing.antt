@@ -5,19 +5,19 @@ use Rattle.std.specs.FinMap.{entries}
 use Rattle.std.specs.FinMap.Entries.{is_sorted}
 use Rattle.std.specs.Ordering.{nat_cmp}
 use Rattle.frs_types.specs.declared.record.Record.{Record}
-use Rattle.frs_types.specs.Records.{Log, Placed, next_lsn}
+use Rattle.frs_types.specs.Records.{Log, IsPlaced, next_lsn}
 use Rattle.frs_disk.specs.declared.disk.Fault.{Fault}
 use Rattle.frs_disk.specs.declared.disk.Fault.TheVariants as fault
 use Rattle.frs_disk.specs.Disk.{Image, Rose}
-use Rattle.frs_segment.specs.declared.layout.Segment.{Segment as Described}
-use Rattle.frs_segment.specs.Segments.{Segment, IsSegment, Spells, open_files, follow_from, all_records}
-use Rattle.frs_segment.specs.Segments.{Image as Files}
-use Rattle.frs_segment.specs.Scanning.{described}
+use Rattle.frs_segment.specs.declared.layout.Segment.{Segment}
+use Rattle.frs_segment.specs.Segments.{WholeSegment, IsSegment, Spells, open_files, follow_from, all_records}
+use Rattle.frs_segment.specs.Segments.{FileList}
+use Rattle.frs_segment.specs.Scanning.{places_of_segment}
 use Rattle.frs_segment.specs.Order.{IsInOrder}
 use Rattle.frs_segment.specs.Stores.{log_up_to}
 use Rattle.frs_writer.specs.declared.fault.WriteFault.{WriteFault}
 use Rattle.frs_writer.specs.declared.fault.WriteFault.TheVariants.{Disk, Broken, NumberLimit, Memory}
-use Rattle.frs_writer.specs.Groups.{joined, Gathers}
+use Rattle.frs_writer.specs.Groups.{joined_records, GathersGroup}
 use Rattle.frs_writer.specs.Places.{number_of_newest, length_of_newest, with_newest_grown}
 use Rattle.frs_writer.specs.Shown.{new_segment}
 use Rattle.frs_writer.specs.Writer.{WriterView, IsLog, IsWellOpened}
@@ -29,8 +29,8 @@ abbrev pub is_due : {D : Type 0} → WriterView D → Bool
 is_due w = nat_le (2 ^ 20) (length_of_newest w.segments) && nat_lt (w.synced + 1) (2 ^ 62)
 
 -- the segments once the next one was made where it is due
-abbrev pub rolled : {D : Type 0} → WriterView D → List Described
-rolled w = if is_due w then w.segments ++ described (new_segment (number_of_newest w.segments + 1) (w.synced + 1)) ∷ [] else w.segments
+abbrev pub segments_after_roll : {D : Type 0} → WriterView D → List Segment
+segments_after_roll w = if is_due w then w.segments ++ places_of_segment (new_segment (number_of_newest w.segments + 1) (w.synced + 1)) ∷ [] else w.segments
 
 -- ---- a group
 
@@ -38,11 +38,11 @@ rolled w = if is_due w then w.segments ++ described (new_segment (number_of_newe
 -- was kept and nothing more was known.
 pub record Wrote {D : Type 0} (limit count : ℕ) (old new : WriterView D) : Type 0 where
   pub group : List (List ℕ)
-  pub gathers : Gathers limit old.taker new.taker old.kept new.kept group
+  pub gathers : GathersGroup limit old.taker new.taker old.kept new.kept group
   pub counted : count ≡ length group
   pub none : count ≡ 0 → (old.kept ≡ None) × (new.kept ≡ None)
   pub synced : new.synced ≡ old.synced + count
-  pub segments : new.segments ≡ (if nat_lt 0 count then with_newest_grown count (length (joined group)) (rolled old) else rolled old)
+  pub segments : new.segments ≡ (if nat_lt 0 count then with_newest_grown count (length (joined_records group)) (segments_after_roll old) else segments_after_roll old)
 
 -- ---- why a call was refused
 
@@ -78,20 +78,20 @@ abbrev pub SpellsFrom : ℕ → Log → Image → Type 0
 SpellsFrom synced log c = (n : ℕ) × (synced ≤ n) × (n < next_lsn log) × Spells (entries c) (log_up_to n log)
 
 -- All open files of the image are segments that follow each other from LSN 1 on, and their records are these.
-pub record HoldsAll (image : Files) (records : List Record) : Type 0 where
+pub record HoldsAll (image : FileList) (records : List Record) : Type 0 where
   pub rising : IsTrue (is_sorted nat_cmp image)
-  pub segments : List Segment
+  pub segments : List WholeSegment
   pub each : AllZip IsSegment (open_files image) segments
   pub follow : IsTrue (follow_from 1 segments)
   pub shown : all_records segments ≡ records
 
 -- and its files are in order, with at most so many half-made ones
-pub record HoldsOnly (most : ℕ) (image : Files) (records : List Record) : Type 0 where
+pub record HoldsOnly (most : ℕ) (image : FileList) (records : List Record) : Type 0 where
   pub all : HoldsAll image records
   pub order : IsInOrder most (length records + 1) image all.segments
 
 -- these records, and where the store was fresh its files are in order, with at most so many half-made ones
-abbrev pub HoldsLog : Type 0 → ℕ → Files → List Record → Type 0
+abbrev pub HoldsLog : Type 0 → ℕ → FileList → List Record → Type 0
 HoldsLog fresh most image records = HoldsAll image records × (fresh → HoldsOnly most image records)
 
 -- The log, up to a record that isn't before the LSN synced; the first record has the LSN 1. Where
@@ -101,4 +101,4 @@ HoldsFrom fresh synced log c = (n : ℕ) × (synced ≤ n) × (n < next_lsn log)
 
 -- Where the writer was well opened and its log is placed, each image has this.
 abbrev pub OfPlacedLog : {D : Type 0} → (D → Image) → (D → Image → Type 0) → WriterView D → (Log → Type 0) → Type 0
-OfPlacedLog reads may_leave w P = IsWellOpened reads may_leave w.opened → (log : Log) → IsLog reads w log → Placed log → P log
+OfPlacedLog reads may_leave w P = IsWellOpened reads may_leave w.opened → (log : Log) → IsLog reads w log → IsPlaced log → P log

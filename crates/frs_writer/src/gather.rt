@@ -1,6 +1,6 @@
 // The records that one chunk gets.
 ghost use Rattle.std.specs.Prelude.{◌≡◌, ◌<◌, ◌≤◌, ◌^◌, ◌+◌, List, ℕ, None, length, IsTrue};
-ghost use Rattle.frs_writer.specs.Groups.{Gathers, HasGroup, Added, Stopped};
+ghost use Rattle.frs_writer.specs.Groups.{GathersGroup, HasGroup, Added, Stopped};
 
 use crate::chunk::Chunk;
 use frs_frame::Framed;
@@ -29,7 +29,7 @@ fn take_one(taker: &mut Taker, kept: &mut Option<Framed>, chunk: &mut Chunk) -> 
 /// gives, until there are as many as the limit says, or the next one doesn't fit and is kept, or no more are known.
 pub(crate) fn gather(taker: &mut Taker, kept: &mut Option<Framed>, chunk: &mut Chunk, limit: u32)
     requires { (1 ≤ limit) × (limit ≤ 256) }
-    ensures { (group : List (List ℕ)) × Gathers limit taker.old taker.new kept.old kept.new group × HasGroup chunk.new group }
+    ensures { (group : List (List ℕ)) × GathersGroup limit taker.old taker.new kept.old kept.new group × HasGroup chunk.new group }
 {
     chunk.clear();
     if let Some(framed) = kept.take() {

@@ -3,7 +3,7 @@ ghost use Rattle.std.specs.Prelude.{◌≡◌, ◌⊎◌, ◌+◌, ◌-◌, ◌<
 ghost use Rattle.std.specs.FinMap.{get};
 ghost use Rattle.frs_disk.specs.Disk.{IsSynced, HasCause};
 ghost use Rattle.frs_writer.specs.Appending.{IsAtGate};
-ghost use Rattle.frs_writer.specs.Groups.{Gathers, HasGroup, PutsGroup};
+ghost use Rattle.frs_writer.specs.Groups.{GathersGroup, HasGroup, PutsGroup};
 
 use crate::append::append_chunk;
 use crate::chunk::Chunk;
@@ -92,7 +92,7 @@ pub(crate) fn put_group<D: Disk>(
     requires gate { IsTrue (D.tells disk.old) → IsAtGate (segment.old.length - 1) (get (D.reads disk.old) segment.old.number) }
     requires synced { IsTrue (D.tells disk.old) → IsSynced D.reads D.may_leave disk.old segment.old.number }
     requires short { (23 ≤ segment.old.length) × (segment.old.length ≤ 2 ^ 22) × (segment.old.«end» ≤ 2 ^ 62) }
-    ensures put { (group : List (List ℕ)) × Gathers limit taker.old taker.new kept.old kept.new group
+    ensures put { (group : List (List ℕ)) × GathersGroup limit taker.old taker.new kept.old kept.new group
         × (length group ≡ 0 → (result ≡ Ok 0) × (disk.new ≡ disk.old) × (segment.new ≡ record segment.old { chunks = places.items }))
         × (1 ≤ length group → PutsGroup D.tells D.reads D.may_leave D.removing D.moment D.left_since disk.old disk.new (record segment.old { chunks = places.items }) segment.new group result) }
     ensures cause { HasCause (D.faults disk.old) (D.faults disk.new) result }

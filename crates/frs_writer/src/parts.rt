@@ -1,6 +1,6 @@
 // What a writer takes memory for at its opening.
 ghost use Rattle.std.specs.Prelude.{◌≡◌, ◌≤◌, ◌<◌, ◌^◌, ◌++◌, [], ◌∷◌, replicate, IfOk};
-ghost use Rattle.frs_segment.specs.Scanning.{described};
+ghost use Rattle.frs_segment.specs.Scanning.{places_of_segment};
 ghost use Rattle.frs_writer.specs.Shown.{new_segment};
 
 use crate::chunk::Chunk;
@@ -30,7 +30,7 @@ impl Parts {
         number: u64,
         clients: u32,
     ) -> Result<Parts, NoMemory>
-        ensures { IfOk result (λ parts. (parts.segments.items ≡ found.now.segments ++ described (new_segment number found.now.next) ∷ [])
+        ensures { IfOk result (λ parts. (parts.segments.items ≡ found.now.segments ++ places_of_segment (new_segment number found.now.next) ∷ [])
             × (parts.noted.items ≡ replicate clients 0)) }
     {
         let mut segments = copies(alloc, found.segments.segments())?;

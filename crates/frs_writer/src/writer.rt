@@ -4,9 +4,9 @@ ghost use Rattle.std.specs.FinMap.{entries};
 ghost use mathlib.Core.List.{IsPrefix};
 ghost use Rattle.frs_types.specs.Records.{Log};
 ghost use Rattle.frs_disk.specs.Disk.{Image, IsSynced, Passes, Within, Rose, NoneRemovedAbove, LeftNoFile};
-ghost use Rattle.frs_segment.specs.Segments.{Segment as Meant, Spells};
+ghost use Rattle.frs_segment.specs.Segments.{WholeSegment, Spells};
 ghost use Rattle.frs_segment.specs.Stores.{IsFound, log_up_to};
-ghost use Rattle.frs_segment.specs.Scanning.{described};
+ghost use Rattle.frs_segment.specs.Scanning.{places_of_segment};
 ghost use Rattle.frs_slots.specs.Views.{AreOfOneRing, IsTakenUp, HasRoom};
 ghost use Rattle.frs_writer.specs.declared.fault.WriteFault.TheVariants.{NumberLimit};
 ghost use Rattle.frs_writer.specs.Places.{number_of_newest};
@@ -61,9 +61,9 @@ impl<D: Disk> Model for Writer<D> {
 
     ghost Value = { WriterView D };
 
-    ghost use Rattle.frs_writer.specs.Inside.{seen, IsWriter};
+    ghost use Rattle.frs_writer.specs.Inside.{view_of, IsWriter};
 
-    ghost view = { λ a. seen a };
+    ghost view = { λ a. view_of a };
 
     ghost invariant = { λ a. IsWriter D.tells D.reads D.may_leave D.removing D.faults a };
 }
@@ -83,14 +83,14 @@ impl<D: Disk> Writer<D> {
         clients: u32,
     ) -> Result<Writer<D>, Refused<D>>
         requires clients { (1 ≤ clients) × (clients ≤ 64) }
-        requires found { IsTrue (D.tells disk) → (segments : List Meant) × (log : Log) × IsFound (entries (D.reads disk)) segments log found.now }
+        requires found { IsTrue (D.tells disk) → (segments : List WholeSegment) × (log : Log) × IsFound (entries (D.reads disk)) segments log found.now }
         requires pending { IsTrue (D.tells disk) → NoneRemovedAbove D.reads D.removing disk }
         requires greatest { found.now.greatest < 2 ^ 62 }
         requires taker { (taker.taken ≡ []) × (taker.first ≡ found.now.next) }
 
         ensures writer { IfOk result (λ w. (w.opened ≡ disk) × (w.taker ≡ taker) × (w.kept ≡ None)
             × (w.noted ≡ replicate clients 0) × (w.synced + 1 ≡ found.now.next) × (w.ended ≡ None)
-            × (w.segments ≡ found.now.segments ++ described (new_segment (found.now.greatest + 1) found.now.next) ∷ [])) }
+            × (w.segments ≡ found.now.segments ++ places_of_segment (new_segment (found.now.greatest + 1) found.now.next) ∷ [])) }
 
         // Each image since the start, and now, spells what was read at the start.
         ensures images { IfOk result (λ w. IsTrue (D.tells disk) → IsWellOpened D.reads D.may_leave disk → (log : Log) → Spells (entries (D.reads disk)) log

@@ -3,8 +3,8 @@ ghost use Rattle.std.specs.Prelude.{◌≡◌, ◌⊎◌, ◌≤◌, ℕ, [], tr
 ghost use Rattle.std.proofs.Common.{sym, ◌∙◌, subst, ap};
 ghost use Rattle.std.specs.FinMap.{get, keys, same_entries_map};
 ghost use Rattle.std.specs.List.Sorted.{IsStrictlyIncreasing};
-ghost use Rattle.frs_disk.specs.Disk.{Image, bytes_at, overwritten, IsNumber, Changes, OnFile, Torn, Created, Removed, Follows, Keeps, IsSynced, Elapses, HasCause};
-ghost use Rattle.frs_disk.specs.Calls.{replayed, MayLeave};
+ghost use Rattle.frs_disk.specs.Disk.{Image, bytes_at, bytes_after_write, IsNumber, ChangesFile, OnFile, Torn, Created, Removed, Follows, Keeps, IsSynced, Elapses, HasCause};
+ghost use Rattle.frs_disk.specs.Calls.{image_after_calls, MayLeave};
 ghost use Rattle.frs_disk.specs.Choices.{held_numbered};
 ghost use Rattle.frs_disk.specs.CallLaws.{now_counts, now_only, earlier_since, read_leaves, absent_stays};
 ghost use Rattle.frs_disk.specs.Plans.{start_of, files_of, record_of, faults_of, left_by, left_since_by, moment_of, removed_on, Plays};
@@ -36,9 +36,9 @@ impl Disk for MemDisk {
 
     ghost since_earlier = { λ m s t c le left. earlier_since (start_of m) (record_of m) s t c le left };
 
-    ghost as_read = { λ m told. subst (λ (c : Image). MayLeave (start_of m) (record_of m) c) (sym (same_entries_map (files_of m) (replayed (start_of m) (record_of m)) m.tied)) (read_leaves (start_of m) (record_of m)) };
+    ghost as_read = { λ m told. subst (λ (c : Image). MayLeave (start_of m) (record_of m) c) (sym (same_entries_map (files_of m) (image_after_calls (start_of m) (record_of m)) m.tied)) (read_leaves (start_of m) (record_of m)) };
 
-    ghost stays_absent = { λ m n c told none kept leaves. absent_stays (start_of m) c (record_of m) n kept (ap (λ (i : Image). get i n) (sym (same_entries_map (files_of m) (replayed (start_of m) (record_of m)) m.tied)) ∙ none) leaves };
+    ghost stays_absent = { λ m n c told none kept leaves. absent_stays (start_of m) c (record_of m) n kept (ap (λ (i : Image). get i n) (sym (same_entries_map (files_of m) (image_after_calls (start_of m) (record_of m)) m.tied)) ∙ none) leaves };
 
     ghost numbered = { λ m n told some. held_numbered (start_of m) (files_of m) (record_of m) m.tied m.in_range n some };
 
@@ -67,9 +67,9 @@ impl Disk for MemDisk {
         requires absent { get (files_of self.old) number ≡ None }
         requires not_removed { removed_on self.old number → ⊥ }
         ensures created { OnOk result (get (files_of self.new) number ≡ Some []) }
-        ensures seen { Changes number Created (files_of self.old) (files_of self.new) }
+        ensures seen { ChangesFile number Created (files_of self.old) (files_of self.new) }
         ensures pending { (n : ℕ) → removed_on self.new n → removed_on self.old n }
-        ensures crash { Follows (Changes number Created) (left_by self.old) (left_by self.new) }
+        ensures crash { Follows (ChangesFile number Created) (left_by self.old) (left_by self.new) }
         ensures time { Elapses moment_of left_since_by left_by self.old self.new }
         ensures cause { HasCause (faults_of self.old) (faults_of self.new) result }
         ensures plays { Plays (Call.Create number) self.old self.new result }
@@ -111,10 +111,10 @@ impl Disk for MemDisk {
     fn write(&mut self, number: u64, at: u64, bytes: &[u8]) -> Result<(), Fault>
         requires there { IsSome (get (files_of self.old) number) }
         requires within { at ≤ length (bytes_at (files_of self.old) number) }
-        ensures written { OnOk result (get (files_of self.new) number ≡ Some (overwritten at bytes.now (bytes_at (files_of self.old) number))) }
-        ensures seen { Changes number (OnFile (Torn at (length bytes.now))) (files_of self.old) (files_of self.new) }
+        ensures written { OnOk result (get (files_of self.new) number ≡ Some (bytes_after_write at bytes.now (bytes_at (files_of self.old) number))) }
+        ensures seen { ChangesFile number (OnFile (Torn at (length bytes.now))) (files_of self.old) (files_of self.new) }
         ensures pending { (n : ℕ) → removed_on self.new n → removed_on self.old n }
-        ensures crash { Follows (Changes number (OnFile (Torn at (length bytes.now)))) (left_by self.old) (left_by self.new) }
+        ensures crash { Follows (ChangesFile number (OnFile (Torn at (length bytes.now)))) (left_by self.old) (left_by self.new) }
         ensures time { Elapses moment_of left_since_by left_by self.old self.new }
         ensures cause { HasCause (faults_of self.old) (faults_of self.new) result }
         ensures plays { Plays (Call.Write number at bytes.now) self.old self.new result }
@@ -145,9 +145,9 @@ impl Disk for MemDisk {
     fn remove(&mut self, number: u64) -> Result<(), Fault>
         requires there { IsSome (get (files_of self.old) number) }
         ensures removed { OnOk result (get (files_of self.new) number ≡ None) }
-        ensures seen { Changes number Removed (files_of self.old) (files_of self.new) }
+        ensures seen { ChangesFile number Removed (files_of self.old) (files_of self.new) }
         ensures pending { (n : ℕ) → removed_on self.new n → removed_on self.old n ⊎ (n ≡ number) }
-        ensures crash { Follows (Changes number Removed) (left_by self.old) (left_by self.new) }
+        ensures crash { Follows (ChangesFile number Removed) (left_by self.old) (left_by self.new) }
         ensures time { Elapses moment_of left_since_by left_by self.old self.new }
         ensures cause { HasCause (faults_of self.old) (faults_of self.new) result }
         ensures plays { Plays (Call.Remove number) self.old self.new result }

@@ -5,9 +5,9 @@ ghost use Rattle.std.specs.List.Sorted.{IsStrictlyIncreasing};
 ghost use Rattle.std.specs.FinMap.{get, from_entries, is_sorted};
 ghost use Rattle.std.specs.Ordering.{nat_cmp};
 ghost use Rattle.frs_disk.specs.Disk.{IsNumber, IsRestarted};
-ghost use Rattle.frs_disk.specs.Files.{AreDistinct, plain, image_of};
-ghost use Rattle.frs_disk.specs.Calls.{chosen, IsAsSynced};
-ghost use Rattle.frs_disk.specs.Plans.{start_of, files_of, record_of, plan_of, faults_of, fails_at};
+ghost use Rattle.frs_disk.specs.Files.{AreDistinct, plain_files, image_of};
+ghost use Rattle.frs_disk.specs.Calls.{chosen_image, IsAsSynced};
+ghost use Rattle.frs_disk.specs.Plans.{start_of, files_of, record_of, fault_plan_of, faults_of, fails_at};
 
 use super::{Choice, FaultPlan, MemDisk};
 use crate::calls::Made;
@@ -27,13 +27,13 @@ impl MemDisk {
     ) -> Result<MemDisk, NoMemory>
         requires in_range { AllByRecursion IsNumber (map (λ f. f.0) files.items) }
         requires distinct { AreDistinct (map (λ f. f.0) files.items) }
-        ensures reads { IfOk result (λ disk. ⟦<MemDisk as Disk>⟧.reads disk ≡ from_entries (plain files.items)) }
-        ensures start { IfOk result (λ disk. start_of disk ≡ from_entries (plain files.items)) }
+        ensures reads { IfOk result (λ disk. ⟦<MemDisk as Disk>⟧.reads disk ≡ from_entries (plain_files files.items)) }
+        ensures start { IfOk result (λ disk. start_of disk ≡ from_entries (plain_files files.items)) }
         ensures restarted { IfOk result (IsRestarted ⟦<MemDisk as Disk>⟧.reads ⟦<MemDisk as Disk>⟧.may_leave ⟦<MemDisk as Disk>⟧.removing) }
         ensures moment { IfOk result (λ disk. ⟦<MemDisk as Disk>⟧.moment disk ≡ 0) }
         ensures faults { IfOk result (λ disk. ⟦<MemDisk as Disk>⟧.faults disk ≡ 0) }
         ensures record { IfOk result (λ disk. record_of disk ≡ []) }
-        ensures plan { IfOk result (λ disk. plan_of disk ≡ plan) }
+        ensures plan { IfOk result (λ disk. fault_plan_of disk ≡ plan) }
     {
         let mut rest = files;
         let mut table = Vec::new(alloc);
@@ -49,16 +49,16 @@ impl MemDisk {
         ensures image { IfOk result (λ disk. ⟦<MemDisk as Disk>⟧.may_leave self.now (⟦<MemDisk as Disk>⟧.reads disk)) }
         ensures keep { choice ≡ Choice.Keep → IfOk result (λ disk. ⟦<MemDisk as Disk>⟧.reads disk ≡ ⟦<MemDisk as Disk>⟧.reads self.now) }
         ensures lose { choice ≡ Choice.Lose
-            → IfOk result (λ disk. ⟦<MemDisk as Disk>⟧.reads disk ≡ chosen None (start_of self.now) (start_of self.now) (record_of self.now)) }
+            → IfOk result (λ disk. ⟦<MemDisk as Disk>⟧.reads disk ≡ chosen_image None (start_of self.now) (start_of self.now) (record_of self.now)) }
         ensures lost { choice ≡ Choice.Lose
             → IfOk result (λ disk. (n : ℕ) → IsAsSynced (start_of self.now) (⟦<MemDisk as Disk>⟧.reads disk) (record_of self.now) n) }
         ensures fill { (byte : ℕ) → choice ≡ Choice.Fill byte
-            → IfOk result (λ disk. ⟦<MemDisk as Disk>⟧.reads disk ≡ chosen (Some byte) (start_of self.now) (start_of self.now) (record_of self.now)) }
+            → IfOk result (λ disk. ⟦<MemDisk as Disk>⟧.reads disk ≡ chosen_image (Some byte) (start_of self.now) (start_of self.now) (record_of self.now)) }
         ensures restarted { IfOk result (IsRestarted ⟦<MemDisk as Disk>⟧.reads ⟦<MemDisk as Disk>⟧.may_leave ⟦<MemDisk as Disk>⟧.removing) }
         ensures moment { IfOk result (λ disk. ⟦<MemDisk as Disk>⟧.moment disk ≡ 0) }
         ensures faults { IfOk result (λ disk. ⟦<MemDisk as Disk>⟧.faults disk ≡ 0) }
         ensures record { IfOk result (λ disk. record_of disk ≡ []) }
-        ensures plan { IfOk result (λ disk. (n : ℕ) → fails_at (plan_of disk) n ≡ false) }
+        ensures plan { IfOk result (λ disk. (n : ℕ) → fails_at (fault_plan_of disk) n ≡ false) }
     {
         let files = match choice {
             Choice::Keep => copy_files(self.alloc, &self.files)?,
@@ -75,7 +75,7 @@ impl MemDisk {
     /// What it reads: each file's number and bytes, in rising order of the numbers.
     pub fn files(&self) -> &[(u64, Vec<u8>)]
         ensures all { image_of result.now ≡ ⟦<MemDisk as Disk>⟧.reads self.now }
-        ensures rising { T (is_sorted nat_cmp (plain result.now)) }
+        ensures rising { T (is_sorted nat_cmp (plain_files result.now)) }
     {
         &self.files
     }
@@ -93,12 +93,12 @@ impl MemDisk {
         files: Vec<(u64, Vec<u8>)>,
         plan: FaultPlan,
     ) -> Result<MemDisk, NoMemory>
-        requires rising { T (is_sorted nat_cmp (plain files.items)) }
+        requires rising { T (is_sorted nat_cmp (plain_files files.items)) }
         requires in_range { (n : ℕ) → IsSome (get (image_of files.items) n) → IsNumber n }
         ensures reads { IfOk result (λ disk. files_of disk ≡ image_of files.items) }
         ensures start { IfOk result (λ disk. start_of disk ≡ image_of files.items) }
         ensures record { IfOk result (λ disk. record_of disk ≡ []) }
-        ensures plan { IfOk result (λ disk. plan_of disk ≡ plan) }
+        ensures plan { IfOk result (λ disk. fault_plan_of disk ≡ plan) }
         ensures faults { IfOk result (λ disk. faults_of disk ≡ 0) }
     {
         let start = copy_files(alloc, &files)?;

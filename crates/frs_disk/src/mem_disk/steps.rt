@@ -5,7 +5,7 @@ ghost use Rattle.frs_disk.specs.Disk.{Image, IsNumber, HasCause, Elapses, Keeps}
 ghost use Rattle.frs_disk.specs.Files.{image_of};
 ghost use Rattle.frs_disk.specs.Calls.{after_call, TakesCall, RemovesMade, CreatesMade, Notes, MayTake};
 ghost use Rattle.frs_disk.specs.Faults.{FailsExactly, faults_after};
-ghost use Rattle.frs_disk.specs.Plans.{files_of, record_of, plan_of, left_by, left_since_by, moment_of, removed_on, fails_at, Plays};
+ghost use Rattle.frs_disk.specs.Plans.{files_of, record_of, fault_plan_of, left_by, left_since_by, moment_of, removed_on, fails_at, Plays};
 
 use super::MemDisk;
 use crate::calls::{Call, Made};
@@ -76,7 +76,7 @@ impl MemDisk {
 
     // Whether the plan lets the next call fail.
     fn fails(&self) -> bool
-        ensures { result ≡ fails_at (plan_of self.now) (length (record_of self.now) + 1) }
+        ensures { result ≡ fails_at (fault_plan_of self.now) (length (record_of self.now) + 1) }
     {
         let next = self.calls.len() as u64 + 1;
         self.plan.failing.contains(&next) || self.plan.stop_after.is_some_and(|last| last < next)

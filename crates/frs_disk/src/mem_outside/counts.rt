@@ -1,7 +1,7 @@
 // How the calls of a form in memory are counted.
 ghost use Rattle.std.specs.Prelude.{◌≡◌, ◌≤◌};
 ghost use Rattle.frs_disk.specs.Disk.{Rose};
-ghost use Rattle.frs_disk.specs.Faults.{risen};
+ghost use Rattle.frs_disk.specs.Faults.{count_after_one};
 ghost use Rattle.frs_disk.specs.MemOutside.{new_tally, next_fails};
 
 use super::Tally;
@@ -28,14 +28,14 @@ impl Tally {
 
     // A call was done.
     pub(super) fn done(&mut self)
-        ensures { self.new ≡ record self.old { made = risen self.old.made } }
+        ensures { self.new ≡ record self.old { made = count_after_one self.old.made } }
     {
         self.made = self.made.saturating_add(1);
     }
 
     // A call has failed.
     pub(super) fn failed(&mut self) -> Fault
-        ensures counted { self.new ≡ record self.old { made = risen self.old.made; faults = risen self.old.faults } }
+        ensures counted { self.new ≡ record self.old { made = count_after_one self.old.made; faults = count_after_one self.old.faults } }
         ensures rose { (self.old.faults ≤ self.new.faults) × Rose self.old.faults self.new.faults }
         ensures fault { result ≡ Fault.Failed }
     {

@@ -1,6 +1,6 @@
 use Rattle.std.proofs.Common.{◌≡◌, ◌∙◌, ◌++◌, rules, true, ap, sym, subst, IsTrue}
 use Rattle.frs_text.specs.Text.{Text}
-use Rattle.frs_engine.specs.Endings.{line_of, has_transcript}
+use Rattle.frs_engine.specs.Endings.{last_line_of, has_transcript}
 use Rattle.frs_engine.proofs.Texts.{said, said_same, run_text, both_print, last_prints, on_ok_then}
 use Rattle.frs_engine.proofs.report.print.Goals as goal
 
@@ -10,7 +10,7 @@ returns-clause-all g c =
     let more : has_transcript o.ending ≡ true = search (rules, sym c.has_transcript.ensures, c.if-not-has_transcript.false) in
     let first : Text = said o.script o.events.items o.acks.items in
     on_ok_then c.print_line-2.result (λ whole told.
-    both_print first (line_of o.ending) _ _ _ _ (run_text o.ending o.script o.events.items o.acks.items more)
+    both_print first (last_line_of o.ending) _ _ _ _ (run_text o.ending o.script o.events.items o.acks.items more)
     (c.in_ok-transcript.ensures.all told ∙ ap (λ (t : Text). g.S.Sink.written c.args.sink.now ++ t) (said_same _ _ _ _ _ _ c.from_ref-scripts.ensures.value c.deref.ensures.value c.deref-2.ensures.value))
     (whole (subst IsTrue (sym c.in_ok-transcript.ensures.told) told))) c.print_line-2.ensures.all
 
@@ -19,6 +19,6 @@ returns-clause-part g c told =
     let o = c.args.outcome.now in
     let more : has_transcript o.ending ≡ true = search (rules, sym c.has_transcript.ensures, c.if-not-has_transcript.false) in
     let first : Text = said o.script o.events.items o.acks.items in
-    last_prints first (line_of o.ending) _ _ _ _ (run_text o.ending o.script o.events.items o.acks.items more)
+    last_prints first (last_line_of o.ending) _ _ _ _ (run_text o.ending o.script o.events.items o.acks.items more)
     (c.in_ok-transcript.ensures.all told ∙ ap (λ (t : Text). g.S.Sink.written c.args.sink.now ++ t) (said_same _ _ _ _ _ _ c.from_ref-scripts.ensures.value c.deref.ensures.value c.deref-2.ensures.value))
     (c.print_line-2.ensures.part (subst IsTrue (sym c.in_ok-transcript.ensures.told) told))

@@ -7,7 +7,7 @@ use Rattle.frs_segment.specs.declared.layout.ChunkPlace.{ChunkPlace}
 use Rattle.frs_disk.proofs.Moments.{passes_none}
 use Rattle.frs_recovery.proofs.Quiet.{both_within}
 use Rattle.frs_recovery.proofs.Told.{err_is}
-use Rattle.frs_recovery.specs.Looking.{IsOutside}
+use Rattle.frs_recovery.specs.Looking.{IsOutsideFault}
 use Rattle.frs_recovery.proofs.Places.{IsReadBack, none_read, one_more, chained, last_apart, read_at, chunk_there, segment_read}
 use Rattle.frs_recovery.proofs.looked.read_segment.Goals as goal
 
@@ -36,7 +36,7 @@ returns-in_err-chunk-clause-only g c told s is e =
     let left = c.loop-left.left.now in
     let place : ChunkPlace = get_or left (length left - 1) (record { offset = 0; first = 0; count = 0; body = 0 }) in
     let fault : c.from_residual.result ≡ Err c.in_err-chunk.field-0.0 = grind (arith, common_steps) in
-    err_is IsOutside c.from_residual.result c.in_err-chunk.field-0.0 fault
+    err_is IsOutsideFault c.from_residual.result c.in_err-chunk.field-0.0 fault
     (chunk_there (d.tells c.args.disk.now) (d.tells c.loop-left.disk) (d.reads c.args.disk.now) (d.reads c.loop-left.disk) c.args.segment.now left (take (length left - 1) left) place c.args.records.now c.loop-left.records
     c.loop-left.invariant.told c.loop-left.invariant.seen c.loop-left.invariant.back (last_apart left _ c.in-len1-up.len_at_least) {X = Records} (λ (records : Records). records.items) c.in_err-chunk.field-0.0 c.in_err-chunk.ensures.only told s is e)
 

@@ -1,6 +1,6 @@
 use Rattle.std.proofs.Common.{subst}
 use Rattle.frs_disk.specs.Disk.{bytes_at}
-use Rattle.frs_segment.specs.Scanning.{IsCauseIn}
+use Rattle.frs_segment.specs.Scanning.{IsCauseInFile}
 use Rattle.frs_recovery.proofs.Told.{half_is_shut, told_or_meant}
 use Rattle.frs_recovery.proofs.looked.segment_of.Goals as goal
 
@@ -10,4 +10,4 @@ returns-in-Ok-clause-found g c =
 
 pub returns-in-Err-HalfMade-clause-found : goal.returns-in-Err-HalfMade-clause-found
 returns-in-Err-HalfMade-clause-found g c told =
-    half_is_shut (c.args.number, bytes_at (g.D.Disk.reads c.args.disk.now) c.args.number) (subst (IsCauseIn (c.args.number, bytes_at (g.D.Disk.reads c.args.disk.now) c.args.number)) c.in-Err-HalfMade.field-0-is (c.in-Err-HalfMade.ensures.why told))
+    half_is_shut (c.args.number, bytes_at (g.D.Disk.reads c.args.disk.now) c.args.number) (subst (IsCauseInFile (c.args.number, bytes_at (g.D.Disk.reads c.args.disk.now) c.args.number)) c.in-Err-HalfMade.field-0-is (c.in-Err-HalfMade.ensures.why told))

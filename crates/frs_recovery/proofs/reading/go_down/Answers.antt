@@ -11,7 +11,7 @@ use Rattle.frs_disk.proofs.Moments.{passes_none}
 use Rattle.frs_recovery.proofs.Quiet.{both_within}
 use Rattle.frs_recovery.proofs.Descent.{set_out}
 use Rattle.frs_recovery.specs.declared.fault.RecoverFault.{RecoverFault}
-use Rattle.frs_recovery.specs.Faults.{IsCauseIn}
+use Rattle.frs_recovery.specs.Faults.{IsCauseOnDisk}
 use Rattle.frs_recovery.specs.Down.{LooksDown}
 use Rattle.frs_recovery.proofs.Told.{err_is}
 use Rattle.frs_recovery.proofs.Turns.{files_left, all_left, next_left, turned, turn, turn_on, turn_ends, turn_fails, end_down, end_fails, none_down, still_cause, gap_cause}
@@ -82,7 +82,7 @@ returns-in_err-look_at-clause-why g c told =
     let at = turned numbers k number (YieldsList-turn (YieldsList-from_rev_slice numbers cc) c.loop-number.yielded _ c.loop-number.yielded_by _ _ c.in-Some.field-0 c.in-Some.is c.next.ensures.steps) in
     let m : Image = d.reads c.args.disk.now in
     let is : c.from_residual.result ≡ Err c.in_err-look_at.field-0.0 = grind (arith, common_steps) in
-    err_is (IsCauseIn (entries m)) c.from_residual.result c.in_err-look_at.field-0.0 is
+    err_is (IsCauseOnDisk (entries m)) c.from_residual.result c.in_err-look_at.field-0.0 is
     (turn_fails (d.tells c.args.disk.now) (d.tells c.loop-number.disk) m (d.reads c.loop-number.disk) numbers k number c.loop-number.looked c.in_err-look_at.field-0.0 way.way c.requires.all at way.told way.seen c.in_err-look_at.ensures.why told)
 
 pub returns-in_err-look_at-clause-told : goal.returns-in_err-look_at-clause-told
@@ -148,7 +148,7 @@ returns-in_err-at_end g c =
     let is : c.from_residual-in_err-at_end.result ≡ Err c.in_err-at_end.field-0.0 = grind (arith, common_steps) in
     record {
       down = none_down (LooksDown (d.tells c.args.disk.now) (entries m)) c.from_residual-in_err-at_end.result fault is;
-      why = λ told. err_is (IsCauseIn (entries m)) c.from_residual-in_err-at_end.result fault is (end_fails (d.tells c.args.disk.now) m numbers (length c.loop-number.yielded) c.loop-number.looked fault way.way all c.in_err-at_end.ensures.gap told);
+      why = λ told. err_is (IsCauseOnDisk (entries m)) c.from_residual-in_err-at_end.result fault is (end_fails (d.tells c.args.disk.now) m numbers (length c.loop-number.yielded) c.loop-number.looked fault way.way all c.in_err-at_end.ensures.gap told);
       told = way.told;
       seen = way.seen;
       pending = way.pending;

@@ -4,12 +4,12 @@ use Rattle.std.proofs.lemmas.Grind.{common_steps}
 use Rattle.frs_types.specs.Records.{Log}
 use Rattle.frs_disk.specs.Disk.{Image, IsNumber}
 use Rattle.frs_disk.proofs.Moments.{passes_join, within_call}
-use Rattle.frs_segment.specs.Segments.{Segment}
+use Rattle.frs_segment.specs.Segments.{WholeSegment}
 use Rattle.frs_disk.specs.declared.disk.Fault.{Fault}
 use Rattle.frs_recovery.specs.declared.fault.RecoverFault.{RecoverFault}
 use Rattle.frs_recovery.specs.declared.recovered.Recovered.{Recovered}
 use Rattle.frs_recovery.specs.Answers.{IsRecovered, IsInRange}
-use Rattle.frs_recovery.specs.Faults.{of_disk, IsCauseIn}
+use Rattle.frs_recovery.specs.Faults.{recover_fault_of, IsCauseOnDisk}
 use Rattle.frs_recovery.proofs.Quiet.{both_within}
 use Rattle.frs_recovery.proofs.Files.{rising}
 use Rattle.frs_recovery.proofs.Told.{err_is}
@@ -33,20 +33,20 @@ returns-in_err-numbers g c =
     let d = g.D.Disk in
     let m : Image = d.reads c.args.disk.now in
     let fault : Fault = c.in_err-numbers.field-0.0 in
-    let is : c.from_residual.result ≡ Err (of_disk c.in_err-numbers.field-0.0) = grind (arith, common_steps) in
+    let is : c.from_residual.result ≡ Err (recover_fault_of c.in_err-numbers.field-0.0) = grind (arith, common_steps) in
     record {
-      found = none_down (λ (r : Recovered). IsTrue (d.tells c.args.disk.now) → (segments : List Segment) × (log : Log) × IsRecovered (entries m) segments log r) c.from_residual.result (of_disk fault) is;
+      found = none_down (λ (r : Recovered). IsTrue (d.tells c.args.disk.now) → (segments : List WholeSegment) × (log : Log) × IsRecovered (entries m) segments log r) c.from_residual.result (recover_fault_of fault) is;
       only = λ told segments log by. outside_gives (IsRecovered (entries m) segments log) c.from_residual.result fault is;
-      why = λ told. err_is (IsCauseIn (entries m)) c.from_residual.result (of_disk fault) is (outside_cause (entries m) fault);
+      why = λ told. err_is (IsCauseOnDisk (entries m)) c.from_residual.result (recover_fault_of fault) is (outside_cause (entries m) fault);
       refused = λ told other wrong. outside_refuses other c.from_residual.result fault is;
-      in_range = none_down IsInRange c.from_residual.result (of_disk fault) is;
+      in_range = none_down IsInRange c.from_residual.result (recover_fault_of fault) is;
       told = c.segments.ensures.told;
       seen = c.segments.ensures.seen;
       pending = c.segments.ensures.pending;
       crash = c.segments.ensures.crash;
       time = c.segments.ensures.time.passes;
       within = within_call d.moment d.left_since d.may_leave c.args.disk.now c.segments.new.self (d.may_leave c.args.disk.now) c.segments.ensures.time (λ x left. left) c.segments.ensures.crash;
-      cause = still_cause (d.faults c.args.disk.now) (d.faults c.args.disk.now) (d.faults c.segments.new.self) c.from_residual.result (of_disk fault) is refl (outside_counts (Vec ℕ Global) (d.faults c.args.disk.now) (d.faults c.segments.new.self) fault c.in_err-numbers.ensures.cause);
+      cause = still_cause (d.faults c.args.disk.now) (d.faults c.args.disk.now) (d.faults c.segments.new.self) c.from_residual.result (recover_fault_of fault) is refl (outside_counts (Vec ℕ Global) (d.faults c.args.disk.now) (d.faults c.segments.new.self) fault c.in_err-numbers.ensures.cause);
     }
 
 pub returns-in_err-looked : goal.returns-in_err-looked
@@ -56,13 +56,13 @@ returns-in_err-looked g c =
     let fault : RecoverFault = c.in_err-looked.field-0.0 in
     let result = c.from_residual-in_err-looked.result in
     let is : c.from_residual-in_err-looked.result ≡ Err c.in_err-looked.field-0.0 = grind (arith, common_steps) in
-    let cause : IsTrue (d.tells c.args.disk.now) → IsCauseIn (entries m) fault =
-    λ told. subst (λ (i : Image). IsCauseIn (entries i) fault) c.segments.ensures.seen (c.in_err-looked.ensures.why (c.segments.ensures.told ∙ told)) in
+    let cause : IsTrue (d.tells c.args.disk.now) → IsCauseOnDisk (entries m) fault =
+    λ told. subst (λ (i : Image). IsCauseOnDisk (entries i) fault) c.segments.ensures.seen (c.in_err-looked.ensures.why (c.segments.ensures.told ∙ told)) in
     let first_within = within_call d.moment d.left_since d.may_leave c.args.disk.now c.segments.new.self (d.may_leave c.args.disk.now) c.segments.ensures.time (λ x left. left) c.segments.ensures.crash in
     record {
-      found = none_down (λ (r : Recovered). IsTrue (d.tells c.args.disk.now) → (segments : List Segment) × (log : Log) × IsRecovered (entries m) segments log r) result fault is;
+      found = none_down (λ (r : Recovered). IsTrue (d.tells c.args.disk.now) → (segments : List WholeSegment) × (log : Log) × IsRecovered (entries m) segments log r) result fault is;
       only = λ told segments log by. only_outside c.one_answer.ensures.apart (IsRecovered (entries m) segments log) (entries m) result fault is (cause told) segments log by;
-      why = λ told. err_is (IsCauseIn (entries m)) result fault is (cause told);
+      why = λ told. err_is (IsCauseOnDisk (entries m)) result fault is (cause told);
       refused = λ told other wrong. told_wrong c.one_answer.ensures.one (entries m) result other fault is (cause told) wrong;
       in_range = none_down IsInRange result fault is;
       told = c.go_down.ensures.told ∙ c.segments.ensures.told;
@@ -79,8 +79,8 @@ returns g c =
     let d = g.D.Disk in
     let m : Image = d.reads c.args.disk.now in
     let later : Image = d.reads c.segments.new.self in
-    let found : IsTrue (d.tells c.args.disk.now) → (segments : List Segment) × (log : Log) × IsRecovered (entries m) segments log c.recovered.result =
-    λ told. subst (λ (i : Image). (segments : List Segment) × (log : Log) × IsRecovered (entries i) segments log c.recovered.result) c.segments.ensures.seen
+    let found : IsTrue (d.tells c.args.disk.now) → (segments : List WholeSegment) × (log : Log) × IsRecovered (entries m) segments log c.recovered.result =
+    λ told. subst (λ (i : Image). (segments : List WholeSegment) × (log : Log) × IsRecovered (entries i) segments log c.recovered.result) c.segments.ensures.seen
     (c.recovered.ensures.found (d.tells c.segments.new.self) (entries later) c.in_ok-looked.ensures.down (c.segments.ensures.told ∙ told) (rising later)
     (c.in_ok-numbers.ensures.numbers told ∙ ap (λ (i : Image). keys i) (sym c.segments.ensures.seen))) in
     let first_within = within_call d.moment d.left_since d.may_leave c.args.disk.now c.segments.new.self (d.may_leave c.args.disk.now) c.segments.ensures.time (λ x left. left) c.segments.ensures.crash in

@@ -1,8 +1,8 @@
 use Rattle.std.proofs.Common.{ℕ, ◌++◌, Option, Vec, Global, reverse, sym, ap, subst, ◌∙◌}
 use Rattle.std.specs.Prelude.{filter, unwrap_or}
 use Rattle.std.proofs.Math.Dec.{ltb}
-use Rattle.frs_types.specs.Survivors.{committed_of, survivors_of, open_begins, least}
-use Rattle.frs_segment.specs.declared.layout.Segment.{Segment as Described}
+use Rattle.frs_types.specs.Survivors.{committed_records, survivors_of, open_begins, least}
+use Rattle.frs_segment.specs.declared.layout.Segment.{Segment}
 use Rattle.frs_recovery.specs.declared.backward.Backward.{Backward}
 use Rattle.frs_recovery.specs.Answers.{lsns_of}
 use Rattle.frs_recovery.specs.Offered.{offered_of, HasRead}
@@ -14,16 +14,16 @@ read_off : (c : goal.After-found) → IsReadOff c.args.looked c.args.numbers.ite
 read_off c =
     let parts = c.parts-segments.ensures in
     record {
-      segments = c.found.ensures.segments ∙ ap (λ (x : Vec Described Global). reverse x.items) parts.0;
-      half = c.found.ensures.half ∙ ap (λ (x : Vec Described Global). filter (ltb (least_number x.items)) (reverse c.parts-segments.result.1.items)) parts.0
+      segments = c.found.ensures.segments ∙ ap (λ (x : Vec Segment Global). reverse x.items) parts.0;
+      half = c.found.ensures.half ∙ ap (λ (x : Vec Segment Global). filter (ltb (least_number x.items)) (reverse c.parts-segments.result.1.items)) parts.0
           ∙ ap (λ (x : Vec ℕ Global). filter (ltb (least_number c.args.looked.segments.items)) (reverse x.items)) parts.1;
-      older = c.found.ensures.older ∙ ap (λ (x : Vec Described Global). filter (λ n. ltb n (least_number x.items)) c.args.numbers.items) parts.0;
+      older = c.found.ensures.older ∙ ap (λ (x : Vec Segment Global). filter (λ n. ltb n (least_number x.items)) c.args.numbers.items) parts.0;
       greatest = c.found.ensures.greatest;
-      next = c.found.ensures.next ∙ c.next_of-next.ensures ∙ ap end_of_newest (c.as_slice.ensures.value ∙ ap (λ (x : Vec Described Global). x.items) parts.0);
+      next = c.found.ensures.next ∙ c.next_of-next.ensures ∙ ap end_of_newest (c.as_slice.ensures.value ∙ ap (λ (x : Vec Segment Global). x.items) parts.0);
       named = c.found.ensures.named ∙ c.unwrap_or-named.ensures ∙ ap (λ (o : Option ℕ). unwrap_or o 1) (c.named.ensures ∙ ap (λ (b : Backward). b.named) parts.2);
       entries = λ first rs read. c.of.ensures ∙ c.left-entries.ensures.entries first rs (subst (λ (b : Backward). HasRead b first rs) (sym parts.2) read);
       lowest = λ first rs read. c.left-entries.ensures.lowest first rs (subst (λ (b : Backward). HasRead b first rs) (sym parts.2) read)
-          ∙ ap (λ (n : ℕ). least n (lsns_of (survivors_of (committed_of (offered_of first rs))) ++ open_begins (offered_of first rs))) (sym c.found.ensures.next);
+          ∙ ap (λ (n : ℕ). least n (lsns_of (survivors_of (committed_records (offered_of first rs))) ++ open_begins (offered_of first rs))) (sym c.found.ensures.next);
     }
 
 pub returns-clause-found : goal.returns-clause-found

@@ -1,6 +1,6 @@
 use Rattle.std.proofs.Common.{◌≡◌, IsTrue, flat_map, take}
 use Rattle.std.specs.String.{string_bytes}
-use Rattle.frs_text.specs.Sinks.{Gathers}
+use Rattle.frs_text.specs.Sinks.{GathersText}
 use Rattle.frs_text.specs.Text.{ack_line}
 use Rattle.frs_text.proofs.history_text.write_acks.Given as goal
 
@@ -9,5 +9,5 @@ invariant-loop-ack g l = record {
   told : g.S.Sink.tells l.sink ≡ g.S.Sink.tells l.fn.sink;
   cause : g.S.Sink.faults l.sink ≡ g.S.Sink.faults l.fn.sink;
   gathered : IsTrue (g.S.Sink.tells l.fn.sink)
-      → Gathers (g.S.Sink.written l.fn.sink) (string_bytes l.fn.text) (g.S.Sink.written l.sink) (string_bytes l.text) (flat_map ack_line (take l.ack-index l.acks));
+      → GathersText (g.S.Sink.written l.fn.sink) (string_bytes l.fn.text) (g.S.Sink.written l.sink) (string_bytes l.text) (flat_map ack_line (take l.ack-index l.acks));
 }

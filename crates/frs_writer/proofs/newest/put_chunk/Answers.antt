@@ -4,7 +4,7 @@ use Rattle.frs_disk.specs.Disk.{bytes_at}
 use Rattle.frs_segment.specs.declared.layout.ChunkPlace.{ChunkPlace}
 use Rattle.frs_writer.specs.Appending.{IsShut, sealed}
 use Rattle.frs_writer.specs.Chunk.{ChunkView}
-use Rattle.frs_writer.specs.Groups.{joined}
+use Rattle.frs_writer.specs.Groups.{joined_records}
 use Rattle.frs_writer.proofs.Gathering.{sealed_bytes, body_is}
 use Rattle.frs_writer.proofs.newest.put_chunk.Goals as goal
 
@@ -13,10 +13,10 @@ returns-in-Ok-clause-put g c = λ group has.
     let d = g.D.Disk in
     let n : ℕ = c.args.segment.now.number in
     let front : List ℕ = take (c.args.segment.now.length - 1) (bytes_at (d.reads c.args.disk.now) n) in
-    let bytes : c.bytes.result.now ≡ sealed c.args.segment.now.«end» (length group) (joined group) =
+    let bytes : c.bytes.result.now ≡ sealed c.args.segment.now.«end» (length group) (joined_records group) =
     c.bytes.ensures ∙ ap (λ (x : ChunkView). x.bytes) c.seal.ensures ∙ sealed_bytes c.args.segment.now.«end» c.args.chunk.now group has in
     let count : c.count.result ≡ length group = c.count.ensures ∙ ap (λ (x : ChunkView). x.count) has in
-    let long : c.body_len.result ≡ length (joined group) = c.body_len.ensures ∙ body_is c.args.chunk.now group has in
+    let long : c.body_len.result ≡ length (joined_records group) = c.body_len.ensures ∙ body_is c.args.chunk.now group has in
     record {
       told = c.append_chunk.ensures.told;
       time = c.append_chunk.ensures.time;
@@ -29,7 +29,7 @@ returns-in-Ok-clause-put g c = λ group has.
       grown_is =
           ap (λ (k : ℕ). record { number = n; first = c.args.segment.now.first; «end» = c.args.segment.now.«end» + k; length = c.args.segment.now.length + (17 + c.from-in-Ok.result); chunks = c.of.result }) (c.from.ensures ∙ count)
           ∙ ap (λ (k : ℕ). record { number = n; first = c.args.segment.now.first; «end» = c.args.segment.now.«end» + length group; length = c.args.segment.now.length + (17 + k); chunks = c.of.result }) (c.from-in-Ok.ensures ∙ long)
-          ∙ ap (λ (l : List ChunkPlace). record { number = n; first = c.args.segment.now.first; «end» = c.args.segment.now.«end» + length group; length = c.args.segment.now.length + (17 + length (joined group)); chunks = l })
+          ∙ ap (λ (l : List ChunkPlace). record { number = n; first = c.args.segment.now.first; «end» = c.args.segment.now.«end» + length group; length = c.args.segment.now.length + (17 + length (joined_records group)); chunks = l })
           (c.of.ensures ∙ c.push_reserved.ensures.items
           ∙ ap (λ (k : ℕ). c.args.places.items ++ record { offset = c.args.segment.now.length - 1; first = c.args.segment.now.«end»; count = k; body = c.body_len.result } ∷ []) count
           ∙ ap (λ (k : ℕ). c.args.places.items ++ record { offset = c.args.segment.now.length - 1; first = c.args.segment.now.«end»; count = length group; body = k } ∷ []) long);
@@ -43,7 +43,7 @@ returns-in-Err-clause-put g c = λ group has.
     let d = g.D.Disk in
     let n : ℕ = c.args.segment.now.number in
     let front : List ℕ = take (c.args.segment.now.length - 1) (bytes_at (d.reads c.args.disk.now) n) in
-    let bytes : c.bytes.result.now ≡ sealed c.args.segment.now.«end» (length group) (joined group) =
+    let bytes : c.bytes.result.now ≡ sealed c.args.segment.now.«end» (length group) (joined_records group) =
     c.bytes.ensures ∙ ap (λ (x : ChunkView). x.bytes) c.seal.ensures ∙ sealed_bytes c.args.segment.now.«end» c.args.chunk.now group has in
     record {
       told = c.append_chunk.ensures.told;

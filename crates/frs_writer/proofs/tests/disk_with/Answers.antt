@@ -3,12 +3,12 @@ use Rattle.std.specs.declared.alloc.Global.{Global}
 use Rattle.std.specs.FinMap.{entries, from_entries}
 use Rattle.std.specs.Ordering.{nat_cmp}
 use Rattle.frs_disk.specs.Disk.{Image}
-use Rattle.frs_disk.specs.Files.{plain}
+use Rattle.frs_disk.specs.Files.{plain_files}
 use Rattle.frs_writer.proofs.Disks.{as_given, both, there}
 use Rattle.frs_writer.proofs.tests.disk_with.Goals as goal
 
-one_entry : (image : Image) (n : ℕ) (bytes : Vec ℕ Global) (files : List (ℕ × Vec ℕ Global)) → files ≡ (n, bytes) ∷ [] → image ≡ from_entries (plain files) → entries image ≡ (n, bytes.items) ∷ []
-one_entry image n bytes files is reads = ap (λ (i : Image). entries i) (reads ∙ ap (λ (l : List (ℕ × Vec ℕ Global)). from_entries {R = nat_cmp} (plain l)) is) ∙ as_given ((n, bytes.items) ∷ []) tt
+one_entry : (image : Image) (n : ℕ) (bytes : Vec ℕ Global) (files : List (ℕ × Vec ℕ Global)) → files ≡ (n, bytes) ∷ [] → image ≡ from_entries (plain_files files) → entries image ≡ (n, bytes.items) ∷ []
+one_entry image n bytes files is reads = ap (λ (i : Image). entries i) (reads ∙ ap (λ (l : List (ℕ × Vec ℕ Global)). from_entries {R = nat_cmp} (plain_files l)) is) ∙ as_given ((n, bytes.items) ∷ []) tt
 
 pub returns : goal.returns
 returns c =

@@ -1,6 +1,6 @@
 use Rattle.std.proofs.Common.{◌≡◌, ◌+◌, ◌++◌, ◌∷◌, [], ◌∙◌, IsTrue, sym, ap, subst, arith}
 use Rattle.frs_segment.specs.Stores.{IsFound}
-use Rattle.frs_segment.specs.Scanning.{described}
+use Rattle.frs_segment.specs.Scanning.{places_of_segment}
 use Rattle.frs_slots.specs.Views.{AreOfOneRing}
 use Rattle.frs_writer.specs.Places.{number_of_newest}
 use Rattle.frs_writer.specs.Shown.{new_segment}
@@ -35,10 +35,10 @@ returns-in-Ok-new-clause-written g c =
     let is = c.in-Ok-new.ensures.writer in
     let found = c.nothing_found-found.ensures in
     let taker = is.1 ∙ c.in-Ok.ensures.taker in
-    let segments : w.segments ≡ described (new_segment 1 1) ∷ [] =
-    is.6 ∙ ap (λ s. s ++ described (new_segment (c.nothing_found-found.result.greatest + 1) c.nothing_found-found.result.next) ∷ []) found.segments_are
-    ∙ ap (λ n. described (new_segment (n + 1) c.nothing_found-found.result.next) ∷ []) found.greatest_is
-    ∙ ap (λ n. described (new_segment 1 n) ∷ []) found.next_is in
+    let segments : w.segments ≡ places_of_segment (new_segment 1 1) ∷ [] =
+    is.6 ∙ ap (λ s. s ++ places_of_segment (new_segment (c.nothing_found-found.result.greatest + 1) c.nothing_found-found.result.next) ∷ []) found.segments_are
+    ∙ ap (λ n. places_of_segment (new_segment (n + 1) c.nothing_found-found.result.next) ∷ []) found.greatest_is
+    ∙ ap (λ n. places_of_segment (new_segment 1 n) ∷ []) found.next_is in
     record {
       written = record {
         first = ap (λ t. t.first) taker;

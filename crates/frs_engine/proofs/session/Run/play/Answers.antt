@@ -2,7 +2,7 @@ use Rattle.std.proofs.Common.{◌∙◌, sym, subst, arith, IsTrue}
 use Rattle.std.proofs.lemmas.Result.{on_ok_weaker}
 use Rattle.frs_disk.specs.Disk.{Passes, Within, LeftNoFile}
 use Rattle.frs_disk.proofs.Moments.{passes_join}
-use Rattle.frs_engine.specs.Promise.{Shows}
+use Rattle.frs_engine.specs.Promise.{ShowsCommits}
 use Rattle.frs_engine.specs.Session.{commits_so_far}
 use Rattle.frs_engine.proofs.Joining.{on_ok_both, all_shown, shown_join, extends_none}
 use Rattle.frs_engine.proofs.Running.{answered_completes, ready_all}
@@ -17,7 +17,7 @@ returns-in_err-answer_all-clause-images g c told none =
     let d = g.D.Disk in
     let start = c.args.journal.now.writer.disk in
     let mid = c.mark.new.journal.writer.disk in
-    let first : Within d.moment d.left_since start mid (Shows (commits_so_far c.args.self.now)) = λ x left. known_acked _ c.args.self.now.acks.items x (c.mark.ensures.images told none x left) in
+    let first : Within d.moment d.left_since start mid (ShowsCommits (commits_so_far c.args.self.now)) = λ x left. known_acked _ c.args.self.now.acks.items x (c.mark.ensures.images told none x left) in
     all_shown d.moment d.left_since start mid c.answer_all.new.journal.writer.disk (commits_so_far c.args.self.now) (commits_so_far c.answer_all.new.self) c.mark.ensures.time c.answer_all.ensures.time c.answer_all.ensures.extends first
     (c.answer_all.ensures.images (subst IsTrue (sym c.mark.ensures.told) told) (subst (λ e. LeftNoFile d.may_leave e) (sym c.mark.ensures.opened) none))
 
@@ -28,7 +28,7 @@ returns-clause-images g c told none =
     let mid = c.answer_all.new.journal.writer.disk in
     let two : Passes d.moment d.left_since start mid = passes_join d.moment d.left_since start c.mark.new.journal.writer.disk mid (g.met.D.Disk.since_earlier mid) c.mark.ensures.time c.answer_all.ensures.time in
     let marked = c.mark.new.journal.writer.disk in
-    let first : Within d.moment d.left_since start marked (Shows (commits_so_far c.args.self.now)) = λ x left. known_acked _ c.args.self.now.acks.items x (c.mark.ensures.images told none x left) in
+    let first : Within d.moment d.left_since start marked (ShowsCommits (commits_so_far c.args.self.now)) = λ x left. known_acked _ c.args.self.now.acks.items x (c.mark.ensures.images told none x left) in
     let answered = all_shown d.moment d.left_since start marked mid (commits_so_far c.args.self.now) (commits_so_far c.answer_all.new.self) c.mark.ensures.time c.answer_all.ensures.time c.answer_all.ensures.extends first
     (c.answer_all.ensures.images (subst IsTrue (sym c.mark.ensures.told) told) (subst (λ e. LeftNoFile d.may_leave e) (sym c.mark.ensures.opened) none)) in
     shown_join d.moment d.left_since start mid c.mark-2.new.journal.writer.disk (commits_so_far c.answer_all.new.self) (commits_so_far c.answer_all.new.self) c.answer_all.new.self.acks.items

@@ -6,7 +6,7 @@ use Rattle.frs_history.specs.declared.event.Ack.{Ack}
 use Rattle.frs_history.specs.Machine.{Changes}
 use Rattle.frs_engine.specs.Entries.{table}
 use Rattle.frs_engine.specs.Promise.{commits_of_run, ShowsAcked}
-use Rattle.frs_engine.specs.Session.{drawn_put, commits_so_far}
+use Rattle.frs_engine.specs.Session.{put_drawn, commits_so_far}
 use Rattle.frs_engine.proofs.Running.{ready_now, ready_drawn, acked_next, answered_tells, put_extends, put_before, put_after, put_log, put_tells, put_answered}
 use Rattle.frs_engine.proofs.session.Run.put.Goals as goal
 
@@ -47,7 +47,7 @@ returns-in_err-append-clause-images g c told none x left =
     let a = ready.answered in
     let n = c.next-lsn.result in
     let lsn : n ≡ length rs + 1 = c.next-lsn.ensures rs ready.written in
-    let r : Record = drawn_put (table old.entries.items) n c.args.id.now c.args.key.now c.args.value.now in
+    let r : Record = put_drawn (table old.entries.items) n c.args.id.now c.args.key.now c.args.value.now in
     let log = put_log rs old new a n lsn c.args.line c.args.id.now c.args.key.now c.args.value.now c.requires.next c.prepare_put.ensures.script c.in-Ok.ensures.events (ready_drawn d.tells d.reads d.may_leave c.args.journal.now old ready ∙ c.requires.marks) c.prepare_put.ensures.words in
     acked_next rs old a r _ log (commits_so_far new) _
     (put_before rs old new a n lsn c.args.line c.args.id.now c.args.key.now c.args.value.now c.requires.next c.prepare_put.ensures.script c.in-Ok.ensures.events)
@@ -64,7 +64,7 @@ returns-clause-images g c told none x left =
     let a = ready.answered in
     let n = c.next-lsn.result in
     let lsn : n ≡ length rs + 1 = c.next-lsn.ensures rs ready.written in
-    let r : Record = drawn_put (table old.entries.items) n c.args.id.now c.args.key.now c.args.value.now in
+    let r : Record = put_drawn (table old.entries.items) n c.args.id.now c.args.key.now c.args.value.now in
     let log = put_log rs old new a n lsn c.args.line c.args.id.now c.args.key.now c.args.value.now c.requires.next c.prepare_put.ensures.script c.in-Ok.ensures.events (ready_drawn d.tells d.reads d.may_leave c.args.journal.now old ready ∙ c.requires.marks) c.prepare_put.ensures.words in
     acked_next rs old a r _ log (commits_so_far new) _
     (put_before rs old new a n lsn c.args.line c.args.id.now c.args.key.now c.args.value.now c.requires.next c.prepare_put.ensures.script c.in-Ok.ensures.events)
@@ -74,7 +74,7 @@ returns-clause-images g c told none x left =
 pub acknowledge-requires : goal.acknowledge-requires
 acknowledge-requires g c =
     let ready = c.requires.ready in
-    let r : Record = drawn_put (table c.args.self.now.entries.items) c.next-lsn.result c.args.id.now c.args.key.now c.args.value.now in (
+    let r : Record = put_drawn (table c.args.self.now.entries.items) c.next-lsn.result c.args.id.now c.args.key.now c.args.value.now in (
       ready.records ++ r ∷ [],
       c.in_ok-append.ensures.written ready.records r ready.written c.in-Ok.ensures.record_is,
       c.next-lsn.ensures ready.records ready.written ∙ sym (length-append ready.records (r ∷ [])),
@@ -88,7 +88,7 @@ returns-clause-ready g c =
     let ready = c.requires.ready in
     let n = c.next-lsn.result in
     let lsn : n ≡ length ready.records + 1 = c.next-lsn.ensures ready.records ready.written in
-    let r : Record = drawn_put (table old.entries.items) n c.args.id.now c.args.key.now c.args.value.now in
+    let r : Record = put_drawn (table old.entries.items) n c.args.id.now c.args.key.now c.args.value.now in
     record {
       records = ready.records ++ r ∷ [];
       answered = put_answered ready.records old _ ready.answered n lsn c.args.line c.args.id.now c.args.key.now c.args.value.now c.requires.next c.prepare_put.ensures.script c.in-Ok.ensures.events
@@ -105,7 +105,7 @@ pub returns-clause-drawn : goal.returns-clause-drawn
 returns-clause-drawn g c =
     let d = g.D.Disk in
     let ready = c.requires.ready in
-    let r : Record = drawn_put (table c.args.self.now.entries.items) c.next-lsn.result c.args.id.now c.args.key.now c.args.value.now in
+    let r : Record = put_drawn (table c.args.self.now.entries.items) c.next-lsn.result c.args.id.now c.args.key.now c.args.value.now in
     let after = ap (λ e. e.drawn) c.acknowledge.ensures.drawer ∙ (c.in_ok-append.ensures.written ready.records r ready.written c.in-Ok.ensures.record_is).drawn.drawn in
     let before = ready_drawn d.tells d.reads d.may_leave c.args.journal.now c.args.self.now ready in
     omega (arith, ap length after, length-map (ready.records ++ r ∷ []) spelling, length-append ready.records (r ∷ []), before)
@@ -114,7 +114,7 @@ pub returns-clause-marks : goal.returns-clause-marks
 returns-clause-marks g c =
     let d = g.D.Disk in
     let ready = c.requires.ready in
-    let r : Record = drawn_put (table c.args.self.now.entries.items) c.next-lsn.result c.args.id.now c.args.key.now c.args.value.now in
+    let r : Record = put_drawn (table c.args.self.now.entries.items) c.next-lsn.result c.args.id.now c.args.key.now c.args.value.now in
     let after = ap (λ e. e.drawn) c.acknowledge.ensures.drawer ∙ (c.in_ok-append.ensures.written ready.records r ready.written c.in-Ok.ensures.record_is).drawn.drawn in
     let before = ready_drawn d.tells d.reads d.may_leave c.args.journal.now c.args.self.now ready in
     omega (

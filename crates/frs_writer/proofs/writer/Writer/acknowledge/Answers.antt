@@ -1,5 +1,5 @@
 use Rattle.std.proofs.Common.{◌-◌}
-use Rattle.frs_writer.specs.Inside.{seen}
+use Rattle.frs_writer.specs.Inside.{view_of}
 use Rattle.frs_writer.proofs.Rolled.{kept_noted}
 use Rattle.frs_writer.proofs.writer.Writer.acknowledge.Goals as goal
 
@@ -8,7 +8,7 @@ invariant_of-self g c =
     let d = g.D.Disk in
     let old = c.self.invariant in
     record {
-      kept_is = kept_noted d.tells d.reads d.may_leave d.removing (seen c.self.inside) (c.args.client - 1) c.args.lsn c.if-lsn-self.false old.kept_is;
+      kept_is = kept_noted d.tells d.reads d.may_leave d.removing (view_of c.self.inside) (c.args.client - 1) c.args.lsn c.if-lsn-self.false old.kept_is;
       count = old.count;
       later = old.later;
       broken = old.broken;

@@ -1,7 +1,7 @@
 use Rattle.std.proofs.Common.{◌≡◌, ℕ, ◌+◌, ◌-◌, ◌^◌, Bool, false, get_or, sym, ◌∙◌, ap}
 use Rattle.std.specs.Prelude.{nat_le, nat_lt, ◌&&◌}
 use Rattle.std.proofs.lemmas.Bool.{le-leb, lt-leb}
-use Rattle.frs_segment.specs.declared.layout.Segment.{Segment as Described}
+use Rattle.frs_segment.specs.declared.layout.Segment.{Segment}
 use Rattle.frs_writer.specs.Places.{length_of_newest}
 use Rattle.frs_writer.specs.Writing.{is_due}
 use Rattle.frs_writer.proofs.Segments.{newest_length, newest_get}
@@ -14,7 +14,7 @@ returns-then-newest-ge-SEGMENT_LIMIT g c =
     c.index-newest.ensures ∙ ap (λ (n : ℕ). get_or c.self.inside.segments.items (n - 1) c.index-newest.result.now) (c.len.ensures ∙ c.self.inside.segments.ok.0)
     ∙ newest_get c.self.inside.segments.items counted.older counted.newest c.index-newest.result.now counted.segments in
     let long : length_of_newest c.self.inside.segments.items ≡ c.index-newest.result.now.length =
-    ap length_of_newest counted.segments ∙ newest_length counted.older counted.newest ∙ ap (λ (s : Described). s.length) (sym newest) in
+    ap length_of_newest counted.segments ∙ newest_length counted.older counted.newest ∙ ap (λ (s : Segment). s.length) (sym newest) in
     ap (λ (b : Bool). b && nat_lt (c.self.inside.synced + 1) (2 ^ 62)) (sym (ap (nat_le (2 ^ 20)) long ∙ le-leb (2 ^ 20) c.index-newest.result.now.length c.if-newest-ge-SEGMENT_LIMIT.true))
     ∙ ap is_due c.self.view_is
 
@@ -25,7 +25,7 @@ returns-else-newest-ge-SEGMENT_LIMIT g c =
     c.index-newest.ensures ∙ ap (λ (n : ℕ). get_or c.self.inside.segments.items (n - 1) c.index-newest.result.now) (c.len.ensures ∙ c.self.inside.segments.ok.0)
     ∙ newest_get c.self.inside.segments.items counted.older counted.newest c.index-newest.result.now counted.segments in
     let long : length_of_newest c.self.inside.segments.items ≡ c.index-newest.result.now.length =
-    ap length_of_newest counted.segments ∙ newest_length counted.older counted.newest ∙ ap (λ (s : Described). s.length) (sym newest) in
+    ap length_of_newest counted.segments ∙ newest_length counted.older counted.newest ∙ ap (λ (s : Segment). s.length) (sym newest) in
     let short : nat_le (2 ^ 20) c.index-newest.result.now.length ≡ false = lt-leb (2 ^ 20) c.index-newest.result.now.length c.if-newest-ge-SEGMENT_LIMIT.false in
     short ∙ sym (ap (λ (b : Bool). b && nat_lt (c.self.inside.synced + 1) (2 ^ 62)) (ap (nat_le (2 ^ 20)) long ∙ short))
     ∙ ap is_due c.self.view_is

@@ -1,6 +1,6 @@
 use Rattle.std.proofs.Common.{ap}
 use Rattle.frs_slots.specs.Views.{TakerView}
-use Rattle.frs_writer.specs.Inside.{seen}
+use Rattle.frs_writer.specs.Inside.{view_of}
 use Rattle.frs_writer.proofs.Rolled.{kept_same}
 use Rattle.frs_writer.proofs.writer.Writer.meet.Goals as goal
 
@@ -9,7 +9,7 @@ invariant_of-self g c =
     let d = g.D.Disk in
     let old = c.self.invariant in
     record {
-      kept_is = kept_same d.tells d.reads d.may_leave d.removing (seen c.self.inside) c.beside.new.taker
+      kept_is = kept_same d.tells d.reads d.may_leave d.removing (view_of c.self.inside) c.beside.new.taker
           (ap (λ (t : TakerView). t.first) c.beside.ensures.taker.0) (ap (λ (t : TakerView). t.taken) c.beside.ensures.taker.0) old.kept_is;
       count = old.count;
       later = old.later;

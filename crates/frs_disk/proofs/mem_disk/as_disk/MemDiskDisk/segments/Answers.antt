@@ -5,12 +5,12 @@ use Rattle.std.specs.declared.alloc.Global.{Global}
 use Rattle.frs_disk.specs.Disk.{IsNumber}
 use Rattle.std.specs.FinMap.{keys, is_sorted}
 use Rattle.std.specs.Ordering.{nat_cmp}
-use Rattle.frs_disk.specs.Files.{plain, image_of}
+use Rattle.frs_disk.specs.Files.{plain_files, image_of}
 use Rattle.frs_disk.specs.Choices.{held_numbered}
 use Rattle.frs_disk.proofs.Numbers.{keys-image_of, rising_numbers, numbers_in_range}
 use Rattle.frs_disk.proofs.mem_disk.as_disk.MemDiskDisk.segments.Goals as goal
 
-numbers : (files : List (ℕ × Vec ℕ Global)) (ns : List ℕ) → ns ≡ map (λ f. f.0) files → T (is_sorted nat_cmp (plain files)) → ns ≡ keys (image_of files)
+numbers : (files : List (ℕ × Vec ℕ Global)) (ns : List ℕ) → ns ≡ map (λ f. f.0) files → T (is_sorted nat_cmp (plain_files files)) → ns ≡ keys (image_of files)
 numbers files ns is rising = is ∙ sym (keys-image_of files rising)
 
 pub returns-clause-numbers : goal.returns-clause-numbers
