@@ -3,7 +3,7 @@ ghost use Rattle.std.specs.Prelude.{◌≡◌, ◌⊎◌, ◌≤◌, ℕ, [], tr
 ghost use Rattle.std.proofs.Common.{sym, ◌∙◌, subst, ap};
 ghost use Rattle.std.specs.FinMap.{get, keys, same_entries_map};
 ghost use Rattle.std.specs.List.Sorted.{IsStrictlyIncreasing};
-ghost use Rattle.frs_disk.specs.Disk.{Image, bytes_at, bytes_after_write, IsNumber, ChangesFile, OnFile, Torn, Created, Removed, Follows, Keeps, IsSynced, Elapses, HasCause};
+ghost use Rattle.frs_disk.specs.Disk.{Image, bytes_at, bytes_after_write, IsNumber, ChangesFile, OnFile, Torn, Created, Removed, Follows, Keeps, Elapses, HasCause};
 ghost use Rattle.frs_disk.specs.Calls.{image_after_calls, MayLeave};
 ghost use Rattle.frs_disk.specs.Choices.{held_numbered};
 ghost use Rattle.frs_disk.specs.CallLaws.{now_counts, now_only, earlier_since, read_leaves, absent_stays};
@@ -131,7 +131,7 @@ impl Disk for MemDisk {
 
     fn sync(&mut self, number: u64) -> Result<(), Fault>
         requires there { IsSome (get (files_of self.old) number) }
-        ensures durable { OnOk result (IsSynced files_of left_by self.new number) }
+        ensures durable { OnOk result ((c : Image) → left_by self.new c → get c number ≡ get (files_of self.new) number) }
         ensures seen { files_of self.new ≡ files_of self.old }
         ensures pending { (n : ℕ) → removed_on self.new n → removed_on self.old n }
         ensures crash { Keeps (left_by self.old) (left_by self.new) }

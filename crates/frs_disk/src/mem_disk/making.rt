@@ -4,7 +4,8 @@ ghost use Rattle.std.specs.List.{AllByRecursion};
 ghost use Rattle.std.specs.List.Sorted.{IsStrictlyIncreasing};
 ghost use Rattle.std.specs.FinMap.{get, from_entries, is_sorted};
 ghost use Rattle.std.specs.Ordering.{nat_cmp};
-ghost use Rattle.frs_disk.specs.Disk.{IsNumber, IsRestarted};
+ghost use Rattle.frs_disk.specs.Disk.{IsNumber};
+ghost use Rattle.frs_disk.specs.Frames.{IsRestarted};
 ghost use Rattle.frs_disk.specs.Files.{AreDistinct, plain_files, image_of};
 ghost use Rattle.frs_disk.specs.Calls.{chosen_image, IsAsSynced};
 ghost use Rattle.frs_disk.specs.Plans.{start_of, files_of, record_of, fault_plan_of, faults_of, fails_at};
@@ -29,7 +30,7 @@ impl MemDisk {
         requires distinct { AreDistinct (map (λ f. f.0) files.items) }
         ensures reads { IfOk result (λ disk. ⟦<MemDisk as Disk>⟧.reads disk ≡ from_entries (plain_files files.items)) }
         ensures start { IfOk result (λ disk. start_of disk ≡ from_entries (plain_files files.items)) }
-        ensures restarted { IfOk result (IsRestarted ⟦<MemDisk as Disk>⟧.reads ⟦<MemDisk as Disk>⟧.may_leave ⟦<MemDisk as Disk>⟧.removing) }
+        ensures restarted { IfOk result (IsRestarted ⟦<MemDisk as Disk>⟧) }
         ensures moment { IfOk result (λ disk. ⟦<MemDisk as Disk>⟧.moment disk ≡ 0) }
         ensures faults { IfOk result (λ disk. ⟦<MemDisk as Disk>⟧.faults disk ≡ 0) }
         ensures record { IfOk result (λ disk. record_of disk ≡ []) }
@@ -54,7 +55,7 @@ impl MemDisk {
             → IfOk result (λ disk. (n : ℕ) → IsAsSynced (start_of self.now) (⟦<MemDisk as Disk>⟧.reads disk) (record_of self.now) n) }
         ensures fill { (byte : ℕ) → choice ≡ Choice.Fill byte
             → IfOk result (λ disk. ⟦<MemDisk as Disk>⟧.reads disk ≡ chosen_image (Some byte) (start_of self.now) (start_of self.now) (record_of self.now)) }
-        ensures restarted { IfOk result (IsRestarted ⟦<MemDisk as Disk>⟧.reads ⟦<MemDisk as Disk>⟧.may_leave ⟦<MemDisk as Disk>⟧.removing) }
+        ensures restarted { IfOk result (IsRestarted ⟦<MemDisk as Disk>⟧) }
         ensures moment { IfOk result (λ disk. ⟦<MemDisk as Disk>⟧.moment disk ≡ 0) }
         ensures faults { IfOk result (λ disk. ⟦<MemDisk as Disk>⟧.faults disk ≡ 0) }
         ensures record { IfOk result (λ disk. record_of disk ≡ []) }
