@@ -1,4 +1,5 @@
 pub mod CommandLine
+pub mod LastLines
 pub mod Legible
 pub mod Lines
 pub mod Reading

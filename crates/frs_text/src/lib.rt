@@ -6,6 +6,7 @@ mod draft;
 mod escape;
 mod find;
 mod history_text;
+mod last_line;
 mod law;
 mod lines;
 mod maps_text;
@@ -21,6 +22,7 @@ mod words_fault;
 
 pub use command_line::read_words;
 pub use history_text::transcript;
+pub use last_line::{LastLine, write_last_line};
 pub use law::{one_history, stat_of_store};
 pub use maps_text::dump;
 pub use numbers_text::stat_text;
