@@ -4,18 +4,19 @@ use Rattle.std.specs.List.{last_or}
 use Rattle.frs_types.specs.declared.record.Action.{Action}
 use Rattle.frs_types.specs.declared.record.Action.TheVariants.{Put, Remove, Delete, Begin, Commit, Compaction, Mark, Abandon}
 use Rattle.frs_types.specs.declared.record.Record.{Record}
+use Rattle.frs_types.specs.declared.limits.TheConstants.{ID_LIMIT, KEY_LIMIT, VALUE_LIMIT}
 
 -- ---- what may stand at an LSN
 
 -- the number of bytes that an id, a key and a value may have
 abbrev pub is_id_len : ℕ → Bool
-is_id_len n = nat_le 1 n && nat_le n 64
+is_id_len n = nat_le 1 n && nat_le n ID_LIMIT
 
 abbrev pub is_key_len : ℕ → Bool
-is_key_len n = nat_le 1 n && nat_le n 255
+is_key_len n = nat_le 1 n && nat_le n KEY_LIMIT
 
 abbrev pub is_value_len : ℕ → Bool
-is_value_len n = nat_le n 65535
+is_value_len n = nat_le n VALUE_LIMIT
 
 abbrev pub is_id : List ℕ → Bool
 is_id word = is_id_len (length word)

@@ -4,6 +4,7 @@ ghost use Rattle.frs_types.specs.Words.{word_fault};
 ghost use Rattle.frs_types.specs.declared.word.WordFault.{WordFault as Fault};
 ghost use Rattle.frs_types.specs.declared.word.WordFault.TheVariants.{Memory};
 
+use crate::limits::{ID_LIMIT, KEY_LIMIT, VALUE_LIMIT};
 use crate::memory::NoMemory;
 use std::alloc::{AllocError, Global};
 use std::fmt;
@@ -63,42 +64,45 @@ pub struct Value {
 
 impl Model for MapId {
     ghost use Rattle.std.specs.Prelude.{List, ℕ, ◌≤◌, length};
+    ghost use Rattle.frs_types.specs.declared.limits.TheConstants.{ID_LIMIT};
 
     ghost Value = { List ℕ };
 
     ghost view = { λ a. a.word.items };
 
-    ghost invariant = { λ a. (1 ≤ length a.word.items) × (length a.word.items ≤ 64) };
+    ghost invariant = { λ a. (1 ≤ length a.word.items) × (length a.word.items ≤ ID_LIMIT) };
 }
 
 impl Model for Key {
     ghost use Rattle.std.specs.Prelude.{List, ℕ, ◌≤◌, length};
+    ghost use Rattle.frs_types.specs.declared.limits.TheConstants.{KEY_LIMIT};
 
     ghost Value = { List ℕ };
 
     ghost view = { λ a. a.word.items };
 
-    ghost invariant = { λ a. (1 ≤ length a.word.items) × (length a.word.items ≤ 255) };
+    ghost invariant = { λ a. (1 ≤ length a.word.items) × (length a.word.items ≤ KEY_LIMIT) };
 }
 
 impl Model for Value {
     ghost use Rattle.std.specs.Prelude.{List, ℕ, ◌≤◌, length};
+    ghost use Rattle.frs_types.specs.declared.limits.TheConstants.{VALUE_LIMIT};
 
     ghost Value = { List ℕ };
 
     ghost view = { λ a. a.word.items };
 
-    ghost invariant = { λ a. length a.word.items ≤ 65535 };
+    ghost invariant = { λ a. length a.word.items ≤ VALUE_LIMIT };
 }
 
 impl MapId {
     /// The id of these bytes. `TooLong` where there are more than 64, `Empty` where there are none, and `Memory` where
     /// there was none for it.
     pub fn new(alloc: Global, bytes: &[u8]) -> Result<MapId, WordFault>
-        ensures refused { (fault : Fault) → word_fault 1 64 bytes.now ≡ Some fault → result ≡ Err fault }
-        ensures made { word_fault 1 64 bytes.now ≡ None → MatchResult result (λ id. id ≡ bytes.now) (λ fault. fault ≡ WordFault.Memory) }
+        ensures refused { (fault : Fault) → word_fault 1 ID_LIMIT bytes.now ≡ Some fault → result ≡ Err fault }
+        ensures made { word_fault 1 ID_LIMIT bytes.now ≡ None → MatchResult result (λ id. id ≡ bytes.now) (λ fault. fault ≡ WordFault.Memory) }
     {
-        let word = word_of(alloc, bytes, 1, 64)?;
+        let word = word_of(alloc, bytes, 1, ID_LIMIT)?;
         Ok(MapId { word })
     }
 
@@ -106,7 +110,7 @@ impl MapId {
     pub fn bytes(&self) -> &[u8]
         ensures bytes { result.now ≡ self.now }
         ensures some { 1 ≤ length self.now }
-        ensures most { length self.now ≤ 64 }
+        ensures most { length self.now ≤ ID_LIMIT }
     {
         self.word.as_slice()
     }
@@ -124,10 +128,10 @@ impl Key {
     /// The key of these bytes. `TooLong` where there are more than 255, `Empty` where there are none, and `Memory`
     /// where there was none for it.
     pub fn new(alloc: Global, bytes: &[u8]) -> Result<Key, WordFault>
-        ensures refused { (fault : Fault) → word_fault 1 255 bytes.now ≡ Some fault → result ≡ Err fault }
-        ensures made { word_fault 1 255 bytes.now ≡ None → MatchResult result (λ key. key ≡ bytes.now) (λ fault. fault ≡ WordFault.Memory) }
+        ensures refused { (fault : Fault) → word_fault 1 KEY_LIMIT bytes.now ≡ Some fault → result ≡ Err fault }
+        ensures made { word_fault 1 KEY_LIMIT bytes.now ≡ None → MatchResult result (λ key. key ≡ bytes.now) (λ fault. fault ≡ WordFault.Memory) }
     {
-        let word = word_of(alloc, bytes, 1, 255)?;
+        let word = word_of(alloc, bytes, 1, KEY_LIMIT)?;
         Ok(Key { word })
     }
 
@@ -135,7 +139,7 @@ impl Key {
     pub fn bytes(&self) -> &[u8]
         ensures bytes { result.now ≡ self.now }
         ensures some { 1 ≤ length self.now }
-        ensures most { length self.now ≤ 255 }
+        ensures most { length self.now ≤ KEY_LIMIT }
     {
         self.word.as_slice()
     }
@@ -153,17 +157,17 @@ impl Value {
     /// The value of these bytes, which may be none. `TooLong` where there are more than 65,535, and `Memory` where there
     /// was none for it.
     pub fn new(alloc: Global, bytes: &[u8]) -> Result<Value, WordFault>
-        ensures refused { (fault : Fault) → word_fault 0 65535 bytes.now ≡ Some fault → result ≡ Err fault }
-        ensures made { word_fault 0 65535 bytes.now ≡ None → MatchResult result (λ value. value ≡ bytes.now) (λ fault. fault ≡ WordFault.Memory) }
+        ensures refused { (fault : Fault) → word_fault 0 VALUE_LIMIT bytes.now ≡ Some fault → result ≡ Err fault }
+        ensures made { word_fault 0 VALUE_LIMIT bytes.now ≡ None → MatchResult result (λ value. value ≡ bytes.now) (λ fault. fault ≡ WordFault.Memory) }
     {
-        let word = word_of(alloc, bytes, 0, 65535)?;
+        let word = word_of(alloc, bytes, 0, VALUE_LIMIT)?;
         Ok(Value { word })
     }
 
     /// Its bytes.
     pub fn bytes(&self) -> &[u8]
         ensures bytes { result.now ≡ self.now }
-        ensures most { length self.now ≤ 65535 }
+        ensures most { length self.now ≤ VALUE_LIMIT }
     {
         self.word.as_slice()
     }
