@@ -182,9 +182,9 @@ chunk_passes first rs is =
     record { some = leb-true _ _ c.0; few = leb-true _ _ c.1; short = leb-true _ _ b.1; all = a.1 }
 
 -- a chunk that stands there has this head
-pub chunk_head : (offset first : ℕ) (behind : List ℕ) (rs : List Record) (gate : ℕ) (rest : List ℕ) → 1 ∷ behind ≡ chunk_bytes first rs ++ gate ∷ rest → IsTrue (is_chunk first rs) → first + length rs ≤ 2 ^ 62
+pub head_of_chunk : (offset first : ℕ) (behind : List ℕ) (rs : List Record) (gate : ℕ) (rest : List ℕ) → 1 ∷ behind ≡ chunk_bytes first rs ++ gate ∷ rest → IsTrue (is_chunk first rs) → first + length rs ≤ 2 ^ 62
     → (head_of offset first behind ≡ Ok (chunk_place offset first rs)) × (take (length (body rs)) (drop 16 behind) ≡ body rs)
-chunk_head offset first behind rs gate rest e is within =
+head_of_chunk offset first behind rs gate rest e is within =
     let p = chunk_passes first rs is in
     let tail : behind ≡ to_be_bytes w32 (length (body rs)) ++ (to_be_bytes w32 (length rs) ++ (to_be_bytes w64 first ++ (body rs ++ gate ∷ rest))) = ap (drop 1) (e ∙ chunk_parts_is first rs (gate ∷ rest)) in
     let n : number_at w32 0 behind ≡ length (body rs) = ap (number_at w32 0) tail ∙ from_be_bytes-to_be_bytes_4 (length (body rs)) (omega (arith, p.short)) in
@@ -209,7 +209,7 @@ chunk_head offset first behind rs gate rest e is within =
 pub not_refused : (offset first : ℕ) (behind : List ℕ) (rs : List Record) (gate : ℕ) (rest : List ℕ) (fault : ScanFault) → 1 ∷ behind ≡ chunk_bytes first rs ++ gate ∷ rest → IsTrue (is_chunk first rs) → first + length rs ≤ 2 ^ 62
     → RefusesChunk offset first behind fault → ⊥
 not_refused offset first behind rs gate rest fault e is within refuses =
-    let head = chunk_head offset first behind rs gate rest e is within in
+    let head = head_of_chunk offset first behind rs gate rest e is within in
     elim refuses [
       | inl failed ↦ absurd (cc (head.0, failed))
       | inr (place, told, fault_is, none) ↦

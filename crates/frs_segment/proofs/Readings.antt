@@ -14,7 +14,7 @@ use Rattle.frs_segment.specs.declared.fault.ScanFault.TheVariants.{HalfMade, Bad
 use Rattle.frs_segment.specs.Segments.{File, WholeSegment, IsSegment, body, chunk_bytes, segment_spelling, end_of, is_open_file}
 use Rattle.frs_segment.specs.Faults.{HasScanCause, GivesScanned}
 use Rattle.frs_segment.specs.Scanning.{number_at, header_of, head_of, chunk_place, places_of_segment, FillBody, IsChunk, RefusesChunk, IsRefused, RefusesRecords, RefusesPlace, TellsFile}
-use Rattle.frs_segment.proofs.Chunks.{ok, IsBytes, IsBytes-drop, chunk_told, chunk_head, chunk_passes}
+use Rattle.frs_segment.proofs.Chunks.{ok, IsBytes, IsBytes-drop, chunk_told, head_of_chunk, chunk_passes}
 use Rattle.frs_segment.proofs.Unique.{one_segment, not_both, one_fault, one_chunk}
 
 -- ---- one chunk
@@ -33,7 +33,7 @@ pub record Begins (place : ChunkPlace) (text : List ℕ) (rs : List Record) : Ty
 pub chunk_begins : (place : ChunkPlace) (text : List ℕ) (rs : List Record) → IsChunk place text rs → Begins place text rs
 chunk_begins place text rs is =
     let front : 1 ∷ drop 1 text ≡ chunk_bytes place.first rs ++ is.gate ∷ is.rest = ap (λ (x : List ℕ). 1 ∷ drop 1 x) is.spelled in
-    let head = chunk_head place.offset place.first (drop 1 text) rs is.gate is.rest front is.chunk is.within in
+    let head = head_of_chunk place.offset place.first (drop 1 text) rs is.gate is.rest front is.chunk is.within in
     let bytes : take place.body (drop 17 text) ≡ body rs = ap (λ (x : List ℕ). take place.body (drop 17 x)) is.spelled ∙ take_at (body rs) (is.gate ∷ is.rest) place.body is.body_is in
     record {
       gate = ap (λ (x : List ℕ). slice_index x 0) is.spelled;

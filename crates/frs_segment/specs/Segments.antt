@@ -2,12 +2,11 @@
 use Rattle.std.specs.Prelude.{◌≡◌, ℕ, ◌+◌, ◌^◌, Bool, true, false, not, ◌&&◌, ◌==◌, nat_lt, nat_le, List, [], ◌∷◌, ◌++◌, length, map, filter, flat_map, IsTrue, slice_index}
 use Rattle.std.specs.FinMap.Entries.{is_sorted}
 use Rattle.std.specs.Ordering.{nat_cmp}
-use Rattle.std.specs.Int.{w32, w64, to_be_bytes}
 use Rattle.std.specs.List.{list_all, AllZip}
 use Rattle.frs_types.specs.declared.record.Record.{Record}
 use Rattle.frs_types.specs.Records.{Log, are_allowed_from, named_lowest, from_lowest}
 use Rattle.frs_frame.specs.Spelling.{spelling}
-use Rattle.frs_segment.specs.Front.{header}
+use Rattle.frs_segment.specs.Front.{header, chunk_head}
 
 -- ---- files
 
@@ -27,9 +26,9 @@ end_of s = s.first + length (records_of s)
 abbrev pub body : List Record → List ℕ
 body rs = flat_map spelling rs
 
--- an open gate, the body's length, the count, the first LSN, and the body
+-- an open gate, the head, and the body
 abbrev pub chunk_bytes : ℕ → List Record → List ℕ
-chunk_bytes first rs = 1 ∷ to_be_bytes w32 (length (body rs)) ++ to_be_bytes w32 (length rs) ++ to_be_bytes w64 first ++ body rs
+chunk_bytes first rs = 1 ∷ chunk_head (length (body rs)) (length rs) first ++ body rs
 
 abbrev pub chunks_bytes : ℕ → List (List Record) → List ℕ
 chunks_bytes first [] = []

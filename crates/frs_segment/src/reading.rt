@@ -1,10 +1,10 @@
 //! Reading a store's disk: a whole segment, or one chunk of it.
-ghost use Rattle.std.specs.Prelude.{◌≡◌, ◌+◌, ◌<◌, ◌≤◌, ◌^◌, ◌↔◌, ℕ, List, Ok, Err, length, drop, slice_index, IsTrue, IsSome, IfOk, IfErr};
+ghost use Rattle.std.specs.Prelude.{◌≡◌, ◌+◌, ◌<◌, ◌≤◌, ◌^◌, ◌↔◌, ℕ, List, Ok, Err, length, drop, slice_index, IsTrue, IfOk, IfErr};
 ghost use Rattle.std.specs.Bool.{OnTrue};
-ghost use Rattle.std.specs.FinMap.{get};
-ghost use Rattle.frs_types.specs.declared.record.Record.{Record as Described};
-ghost use Rattle.frs_disk.specs.Disk.{bytes_at, IsNumber, Keeps, Elapses, HasCause};
-ghost use Rattle.frs_segment.specs.declared.fault.ScanFault.{ScanFault as Refusal};
+ghost use Rattle.frs_types.specs.declared.record.Record.{Record};
+ghost use Rattle.frs_disk.specs.Disk.{bytes_at, IsNumber, HasCause};
+ghost use Rattle.frs_disk.specs.Frames.{IsThere, OnlyReads};
+ghost use Rattle.frs_segment.specs.declared.fault.ScanFault.{ScanFault};
 ghost use Rattle.frs_segment.specs.Segments.{WholeSegment, IsSegment};
 ghost use Rattle.frs_segment.specs.Faults.{HasScanCause, GivesScanned};
 ghost use Rattle.frs_segment.specs.Scanning.{head_of, places_of_segment, IsChunk, IsRefused, IsCauseInFile, IsFaultAt, RefusesPlace};
@@ -28,7 +28,7 @@ use std::alloc::Global;
 /// the chunk before it; `NumberLimit` with 2^62 where its LSNs pass that number; and `BadChunk` again where no records
 /// that may stand there fill its body. `Disk` and `Memory` may come instead.
 pub fn scan<D: Disk>(alloc: Global, disk: &mut D, number: u64) -> Result<Segment, ScanFault>
-    requires there { IsTrue (D.tells disk.old) → IsSome (get (D.reads disk.old) number) }
+    requires there { IsThere D.Disk disk.old number }
 
     // What is read is the segment that the file is.
     ensures found { IfOk result (λ found. IsTrue (D.tells disk.old)
@@ -43,14 +43,10 @@ pub fn scan<D: Disk>(alloc: Global, disk: &mut D, number: u64) -> Result<Segment
 
     // Which fault it is: that which is first.
     ensures why { IsTrue (D.tells disk.old) → IfErr result (IsCauseInFile (number, bytes_at (D.reads disk.old) number)) }
-    ensures refused { IsTrue (D.tells disk.old) → (fault : Refusal) → IsRefused (number, bytes_at (D.reads disk.old) number) fault
+    ensures refused { IsTrue (D.tells disk.old) → (fault : ScanFault) → IsRefused (number, bytes_at (D.reads disk.old) number) fault
         → GivesScanned (λ found. found) result (Err fault) }
 
-    ensures told { D.tells disk.new ≡ D.tells disk.old }
-    ensures seen { D.reads disk.new ≡ D.reads disk.old }
-    ensures pending { (n : ℕ) → D.removing disk.new n → D.removing disk.old n }
-    ensures crash { Keeps (D.may_leave disk.old) (D.may_leave disk.new) }
-    ensures time { Elapses D.moment D.left_since D.may_leave disk.old disk.new }
+    ensures frame { OnlyReads D.Disk disk.old disk.new }
     ensures cause { HasScanCause (D.faults disk.old) (D.faults disk.new) result }
 {
     let bytes = read_whole(alloc, disk, number)?;
@@ -59,13 +55,9 @@ pub fn scan<D: Disk>(alloc: Global, disk: &mut D, number: u64) -> Result<Segment
 
 // All bytes of a file.
 fn read_whole<D: Disk>(alloc: Global, disk: &mut D, number: u64) -> Result<Vec<u8>, Fault>
-    requires there { IsTrue (D.tells disk.old) → IsSome (get (D.reads disk.old) number) }
+    requires there { IsThere D.Disk disk.old number }
     ensures bytes { IfOk result (λ bytes. IsTrue (D.tells disk.old) → bytes.items ≡ bytes_at (D.reads disk.old) number) }
-    ensures told { D.tells disk.new ≡ D.tells disk.old }
-    ensures seen { D.reads disk.new ≡ D.reads disk.old }
-    ensures pending { (n : ℕ) → D.removing disk.new n → D.removing disk.old n }
-    ensures crash { Keeps (D.may_leave disk.old) (D.may_leave disk.new) }
-    ensures time { Elapses D.moment D.left_since D.may_leave disk.old disk.new }
+    ensures frame { OnlyReads D.Disk disk.old disk.new }
     ensures cause { HasCause (D.faults disk.old) (D.faults disk.new) result }
 {
     let length = disk.length(number)?;
@@ -83,7 +75,7 @@ pub fn read_chunk<D: Disk>(
     number: u64,
     place: &ChunkPlace,
 ) -> Result<Vec<Record>, ScanFault>
-    requires there { IsTrue (D.tells disk.old) → IsSome (get (D.reads disk.old) number) }
+    requires there { IsThere D.Disk disk.old number }
 
     // What is read is the chunk that stands there.
     ensures found { IfOk result (λ records. IsTrue (D.tells disk.old)
@@ -93,18 +85,14 @@ pub fn read_chunk<D: Disk>(
     ensures meant { IfOk result (λ records. (text : List ℕ) × IsChunk place.now text records.items) }
 
     // If it stands there, it is read, unless the disk or memory fails.
-    ensures only { IsTrue (D.tells disk.old) → (rs : List Described)
+    ensures only { IsTrue (D.tells disk.old) → (rs : List Record)
         → IsChunk place.now (drop place.now.offset (bytes_at (D.reads disk.old) number)) rs
         → GivesScanned (λ records. records.items) result (Ok rs) }
 
     // Else it is said that it doesn't stand there, and nothing more.
     ensures why { IfErr result (IsFaultAt place.now) }
 
-    ensures told { D.tells disk.new ≡ D.tells disk.old }
-    ensures seen { D.reads disk.new ≡ D.reads disk.old }
-    ensures pending { (n : ℕ) → D.removing disk.new n → D.removing disk.old n }
-    ensures crash { Keeps (D.may_leave disk.old) (D.may_leave disk.new) }
-    ensures time { Elapses D.moment D.left_since D.may_leave disk.old disk.new }
+    ensures frame { OnlyReads D.Disk disk.old disk.new }
     ensures cause { HasScanCause (D.faults disk.old) (D.faults disk.new) result }
 {
     if place.body > MOST_BODY {
