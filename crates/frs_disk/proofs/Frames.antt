@@ -1,5 +1,5 @@
 -- How the frames of single calls join into the frame of a run.
-use Rattle.std.proofs.Common.{◌≡◌, ◌⊎◌, ⊎_elim, ℕ, ◌≤◌, ◌∙◌, IsTrue, refl, sym, subst}
+use Rattle.std.proofs.Common.{◌≡◌, ⊎_elim, ℕ, ◌≤◌, ◌∙◌, IsTrue, refl, sym, subst}
 use Rattle.std.specs.FinMap.{get}
 use Rattle.frs_disk.specs.declared.disk.Disk.{Ghosts}
 use Rattle.frs_disk.specs.Disk.{Image, Elapses, ChangesFile, Follows, Keeps}

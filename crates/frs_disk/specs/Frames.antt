@@ -1,6 +1,6 @@
 -- What a run of calls leaves of a disk beside what it was made for, and what a crash may leave while it goes on. Each word
 -- takes the members of the trait as one argument.
-use Rattle.std.specs.Prelude.{◌≡◌, ◌≤◌, ℕ, Some, None, IsTrue, IsSome}
+use Rattle.std.specs.Prelude.{◌≡◌, ◌≤◌, ℕ, None, IsTrue, IsSome}
 use Rattle.std.specs.FinMap.{empty, get}
 use Rattle.frs_disk.specs.declared.disk.Disk.{Ghosts}
 use Rattle.frs_disk.specs.Disk.{Image, SameElsewhere, AgreesElsewhere, Keeps, Passes}

@@ -1,1 +1,2 @@
 pub mod LogExamples
+pub mod Truth
