@@ -1,2 +1,3 @@
 pub mod LogExamples
+pub mod Results
 pub mod Truth

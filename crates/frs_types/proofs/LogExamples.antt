@@ -7,7 +7,7 @@ use Rattle.frs_types.specs.declared.record.Record.{Record}
 use Rattle.frs_types.specs.Records.{is_allowed, well_formed, IsPlaced, are_placed_from, next_lsn, named_lowest}
 use Rattle.frs_types.specs.Lawful.{are_lawful, is_lawful, settled_state, state_after}
 
-abbrev rec : ℕ → ℕ → ℕ → Action → Record
+abbrev pub rec : ℕ → ℕ → ℕ → Action → Record
 rec tx lowest named action = record { tx = tx; lowest = lowest; named = named; action = action }
 
 abbrev m : List ℕ
