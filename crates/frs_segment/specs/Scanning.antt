@@ -1,11 +1,13 @@
 -- What reading a segment file tells: where its chunks stand, or the first thing from the front that is wrong.
-use Rattle.std.specs.Prelude.{◌≡◌, ◌⊎◌, ℕ, ◌+◌, ◌^◌, ◌≤◌, not, ◌&&◌, ◌==◌, nat_lt, nat_le, List, [], ◌∷◌, ◌++◌, length, take, drop, codes, slice_index, slice_range, IsTrue, Option, Some, None, Result, Ok, Err, if◌then◌else◌}
+use Rattle.std.specs.Prelude.{◌≡◌, ◌⊎◌, ℕ, ◌+◌, ◌-◌, ◌≤◌, not, ◌&&◌, ◌==◌, nat_lt, nat_le, List, [], ◌∷◌, ◌++◌, length, take, drop, codes, slice_index, slice_range, IsTrue, Option, Some, None, Result, Ok, Err, if◌then◌else◌}
 use Rattle.std.specs.Str.{bytes_eq}
 use Rattle.std.specs.Int.{Width, w32, w64, byte_len, from_be_bytes}
+use Rattle.frs_types.specs.declared.limits.TheConstants.{NUMBER_LIMIT}
 use Rattle.frs_types.specs.declared.record.Record.{Record}
 use Rattle.frs_types.specs.Records.{is_allowed, are_allowed_from}
 use Rattle.frs_frame.specs.Spelling.{spelling}
 use Rattle.frs_disk.specs.Disk.{IsNumber}
+use Rattle.frs_segment.specs.declared.format.TheConstants.{HEADER_LENGTH, CHUNK_HEAD, CHUNK_FRONT, MOST_RECORDS, BODY_LIMIT}
 use Rattle.frs_segment.specs.declared.layout.ChunkPlace.{ChunkPlace}
 use Rattle.frs_segment.specs.declared.layout.Segment.{Segment}
 use Rattle.frs_segment.specs.declared.fault.ScanFault.{ScanFault}
@@ -17,14 +19,14 @@ use Rattle.frs_segment.specs.Segments.{File, WholeSegment, IsSegment, body, chun
 abbrev pub chunk_place : ℕ → ℕ → List Record → ChunkPlace
 chunk_place offset first rs = record { offset = offset; first = first; count = length rs; body = length (body rs) }
 
--- each chunk stands behind the one before it: a gate and 16 bytes of head, and then its body
+-- each chunk stands behind the one before it: a gate, a head, and then its body
 abbrev pub places_from : ℕ → ℕ → List (List Record) → List ChunkPlace
 places_from offset first [] = []
-places_from offset first (rs ∷ chunks) = chunk_place offset first rs ∷ places_from (offset + 17 + length (body rs)) (first + length rs) chunks
+places_from offset first (rs ∷ chunks) = chunk_place offset first rs ∷ places_from (offset + CHUNK_FRONT + length (body rs)) (first + length rs) chunks
 
--- the segment as one who has read its file knows it; the first chunk stands behind the 22 bytes of the header
+-- the segment as one who has read its file knows it; its first gate is the header's last byte
 abbrev pub places_of_segment : WholeSegment → Segment
-places_of_segment s = record { number = s.number; first = s.first; «end» = end_of s; length = length (segment_spelling s) + 1; chunks = places_from 22 s.first s.chunks }
+places_of_segment s = record { number = s.number; first = s.first; «end» = end_of s; length = length (segment_spelling s) + 1; chunks = places_from (HEADER_LENGTH - 1) s.first s.chunks }
 
 -- ---- the fields of a file's header and of a chunk's head
 
@@ -41,7 +43,7 @@ header_of file =
     if not (slice_index file.1 5 == 1) then Err (BadHeader 5) else
     if not (number_at w64 6 file.1 == file.0) then Err (BadHeader 6) else
     if number_at w64 14 file.1 == 0 then Err (BadHeader 14) else
-    if nat_le (2 ^ 62) (number_at w64 14 file.1) then Err (NumberLimit (number_at w64 14 file.1)) else
+    if nat_le NUMBER_LIMIT (number_at w64 14 file.1) then Err (NumberLimit (number_at w64 14 file.1)) else
     Ok (number_at w64 14 file.1)
 
 -- The chunk whose open gate stands at the offset, as its head tells it, where the LSN that follows on is next. Before
@@ -49,12 +51,12 @@ header_of file =
 -- as they should be, and its LSNs are within the limit.
 unfoldable pub head_of : ℕ → ℕ → List ℕ → Result ChunkPlace ScanFault
 head_of offset next behind =
-    if nat_lt (length behind) 17 then Err (BadChunk offset) else
-    if nat_le (length behind) (16 + number_at w32 0 behind) then Err (BadChunk offset) else
-    if not (nat_le 1 (number_at w32 4 behind) && nat_le (number_at w32 4 behind) 256) then Err (BadChunk offset) else
-    if not (nat_le 1 (number_at w32 0 behind) && nat_le (number_at w32 0 behind) (2 ^ 20)) then Err (BadChunk offset) else
+    if nat_le (length behind) CHUNK_HEAD then Err (BadChunk offset) else
+    if nat_le (length behind) (CHUNK_HEAD + number_at w32 0 behind) then Err (BadChunk offset) else
+    if not (nat_le 1 (number_at w32 4 behind) && nat_le (number_at w32 4 behind) MOST_RECORDS) then Err (BadChunk offset) else
+    if not (nat_le 1 (number_at w32 0 behind) && nat_le (number_at w32 0 behind) BODY_LIMIT) then Err (BadChunk offset) else
     if not (number_at w64 8 behind == next) then Err (BadChunk offset) else
-    if nat_lt (2 ^ 62) (next + number_at w32 4 behind) then Err (NumberLimit (2 ^ 62)) else
+    if nat_lt NUMBER_LIMIT (next + number_at w32 4 behind) then Err (NumberLimit NUMBER_LIMIT) else
     Ok (record { offset = offset; first = next; count = number_at w32 4 behind; body = number_at w32 0 behind })
 
 -- ---- a chunk's records
@@ -74,7 +76,7 @@ pub record IsChunk (place : ChunkPlace) (text : List ℕ) (rs : List Record) : T
   pub count_is : length rs ≡ place.count
   pub body_is : length (body rs) ≡ place.body
   pub chunk : IsTrue (is_chunk place.first rs)
-  pub within : place.first + length rs ≤ 2 ^ 62
+  pub within : place.first + length rs ≤ NUMBER_LIMIT
 
 -- ---- what is wrong first
 
@@ -83,7 +85,7 @@ abbrev pub RefusesChunk : ℕ → ℕ → List ℕ → ScanFault → Type 0
 RefusesChunk offset next behind fault =
     (head_of offset next behind ≡ Err fault)
     ⊎ ((place : ChunkPlace) × (head_of offset next behind ≡ Ok place) × (fault ≡ BadChunk offset)
-    × ((rs : List Record) → FillBody place (take place.body (drop 16 behind)) rs → ⊥))
+    × ((rs : List Record) → FillBody place (take place.body (drop CHUNK_HEAD behind)) rs → ⊥))
 
 -- The file begins as a segment up to an open gate, and behind this gate stands no chunk.
 pub record RefusesBody (file : File) (fault : ScanFault) : Type 0 where
@@ -93,7 +95,7 @@ pub record RefusesBody (file : File) (fault : ScanFault) : Type 0 where
   pub number : before.number ≡ file.0
   pub spelled : file.1 ≡ segment_spelling before ++ 1 ∷ behind
   pub chunks : IsTrue (are_chunks before.first before.chunks)
-  pub within : end_of before ≤ 2 ^ 62
+  pub within : end_of before ≤ NUMBER_LIMIT
   pub chunk : RefusesChunk (length (segment_spelling before)) (end_of before) behind fault
 
 -- The file is no segment, and this is wrong first from its front.

@@ -1,11 +1,13 @@
 -- Segment files, and which log an image of a store spells. A relation on whole files.
-use Rattle.std.specs.Prelude.{◌≡◌, ℕ, ◌+◌, ◌^◌, Bool, true, false, not, ◌&&◌, ◌==◌, nat_lt, nat_le, List, [], ◌∷◌, ◌++◌, length, map, filter, flat_map, IsTrue, slice_index}
+use Rattle.std.specs.Prelude.{◌≡◌, ℕ, ◌+◌, Bool, true, false, not, ◌&&◌, ◌==◌, nat_lt, nat_le, List, [], ◌∷◌, ◌++◌, length, map, filter, flat_map, IsTrue, slice_index}
 use Rattle.std.specs.FinMap.Entries.{is_sorted}
 use Rattle.std.specs.Ordering.{nat_cmp}
 use Rattle.std.specs.List.{list_all, AllZip}
+use Rattle.frs_types.specs.declared.limits.TheConstants.{NUMBER_LIMIT}
 use Rattle.frs_types.specs.declared.record.Record.{Record}
 use Rattle.frs_types.specs.Records.{Log, are_allowed_from, named_lowest, from_lowest}
 use Rattle.frs_frame.specs.Spelling.{spelling}
+use Rattle.frs_segment.specs.declared.format.TheConstants.{HEADER_LENGTH, MOST_RECORDS, BODY_LIMIT}
 use Rattle.frs_segment.specs.Front.{header, chunk_head}
 
 -- ---- files
@@ -38,9 +40,9 @@ chunks_bytes first (rs ∷ chunks) = chunk_bytes first rs ++ chunks_bytes (first
 abbrev pub segment_spelling : WholeSegment → List ℕ
 segment_spelling s = (1 ∷ header s.number s.first) ++ chunks_bytes s.first s.chunks
 
--- each chunk has 1 to 256 records and a body of at most 1 MiB, and its records may stand at their LSNs
+-- a chunk has a record, no more records and bytes than the limits say, and its records may stand at their LSNs
 abbrev pub is_chunk : ℕ → List Record → Bool
-is_chunk first rs = nat_le 1 (length rs) && nat_le (length rs) 256 && nat_le (length (body rs)) (2 ^ 20) && are_allowed_from first rs
+is_chunk first rs = nat_le 1 (length rs) && nat_le (length rs) MOST_RECORDS && nat_le (length (body rs)) BODY_LIMIT && are_allowed_from first rs
 
 abbrev pub are_chunks : ℕ → List (List Record) → Bool
 are_chunks first [] = true
@@ -58,12 +60,12 @@ pub record IsSegment (file : File) (s : WholeSegment) : Type 0 where
   pub closed : IsTrue (not (gate == 1))
   pub bytes : file.1 ≡ segment_spelling s ++ gate ∷ rest
   pub chunks : IsTrue (are_chunks s.first s.chunks)
-  pub starts : IsTrue (nat_le 1 s.number && nat_le 1 s.first && nat_lt s.first (2 ^ 62))
-  pub within : IsTrue (nat_le (end_of s) (2 ^ 62) && nat_lt s.number (2 ^ 62))
+  pub starts : IsTrue (nat_le 1 s.number && nat_le 1 s.first && nat_lt s.first NUMBER_LIMIT)
+  pub within : IsTrue (nat_le (end_of s) NUMBER_LIMIT && nat_lt s.number NUMBER_LIMIT)
 
--- A file is open, and not half-made, where it has 23 bytes and an open gate.
+-- A file is open, and not half-made, where it has a header's bytes and an open gate.
 abbrev pub is_open_file : File → Bool
-is_open_file file = nat_le 23 (length file.1) && (slice_index file.1 0 == 1)
+is_open_file file = nat_le HEADER_LENGTH (length file.1) && (slice_index file.1 0 == 1)
 
 -- ---- images
 

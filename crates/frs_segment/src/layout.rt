@@ -1,7 +1,5 @@
 //! Where the chunks of a segment file stand, and what a store's files are, as one who has read them knows it.
-ghost use Rattle.std.specs.Prelude.{◌≡◌};
-
-use std::marker::Model;
+use frs_types::Sequence;
 
 /// Where a chunk stands in a segment file.
 #[derive(Clone, Copy, Debug, PartialEq, Eq)]
@@ -16,45 +14,6 @@ pub struct ChunkPlace {
     pub body: u32,
 }
 
-/// The places of chunks, by rising offset. Contracts see it as the list of the places.
-#[derive(Debug, Drop)]
-pub struct Places {
-    places: Vec<ChunkPlace>,
-}
-
-impl Model for Places {
-    ghost use Rattle.std.specs.Prelude.{List};
-    ghost use Rattle.frs_segment.specs.declared.layout.ChunkPlace.{ChunkPlace};
-
-    ghost Value = { List ChunkPlace };
-
-    ghost view = { λ a. a.places.items };
-}
-
-impl Places {
-    /// These places.
-    pub fn of(places: Vec<ChunkPlace>) -> Places
-        ensures { result ≡ places.items }
-    {
-        Places { places }
-    }
-
-    /// The places.
-    pub fn places(&self) -> &[ChunkPlace]
-        ensures { result.now ≡ self.now }
-    {
-        self.places.as_slice()
-    }
-
-    /// The places, given back.
-    pub fn into_vec(self) -> Vec<ChunkPlace>
-        ensures { result.items ≡ self }
-    {
-        let Places { places } = self;
-        places
-    }
-}
-
 /// A segment file that was read to its end.
 #[derive(Debug, Drop)]
 pub struct Segment {
@@ -66,96 +25,19 @@ pub struct Segment {
     pub end: u64,
     /// The place after its first closed chunk gate, in bytes. What the file holds from there on isn't looked at.
     pub length: u64,
-    /// Where its chunks stand.
-    pub chunks: Places,
-}
-
-/// Segment files. Contracts see it as the list of them.
-#[derive(Debug, Drop)]
-pub struct Segments {
-    segments: Vec<Segment>,
-}
-
-impl Model for Segments {
-    ghost use Rattle.std.specs.Prelude.{List};
-    ghost use Rattle.frs_segment.specs.declared.layout.Segment.{Segment};
-
-    ghost Value = { List Segment };
-
-    ghost view = { λ a. a.segments.items };
-}
-
-impl Segments {
-    /// These segments.
-    pub fn of(segments: Vec<Segment>) -> Segments
-        ensures { result ≡ segments.items }
-    {
-        Segments { segments }
-    }
-
-    /// The segments.
-    pub fn segments(&self) -> &[Segment]
-        ensures { result.now ≡ self.now }
-    {
-        self.segments.as_slice()
-    }
-
-    /// The segments, given back.
-    pub fn into_vec(self) -> Vec<Segment>
-        ensures { result.items ≡ self }
-    {
-        let Segments { segments } = self;
-        segments
-    }
-}
-
-/// The numbers of files. Contracts see it as the list of them.
-#[derive(Debug, Drop)]
-pub struct Numbers {
-    numbers: Vec<u64>,
-}
-
-impl Model for Numbers {
-    ghost use Rattle.std.specs.Prelude.{List, ℕ};
-
-    ghost Value = { List ℕ };
-
-    ghost view = { λ a. a.numbers.items };
-}
-
-impl Numbers {
-    /// These numbers.
-    pub fn of(numbers: Vec<u64>) -> Numbers
-        ensures { result ≡ numbers.items }
-    {
-        Numbers { numbers }
-    }
-
-    /// The numbers.
-    pub fn numbers(&self) -> &[u64]
-        ensures { result.now ≡ self.now }
-    {
-        self.numbers.as_slice()
-    }
-
-    /// The numbers, given back.
-    pub fn into_vec(self) -> Vec<u64>
-        ensures { result.items ≡ self }
-    {
-        let Numbers { numbers } = self;
-        numbers
-    }
+    /// Where its chunks stand, by rising offset.
+    pub chunks: Sequence<ChunkPlace>,
 }
 
 /// What was found in a store's files.
 #[derive(Debug, Drop)]
 pub struct Found {
     /// The segments that were looked at, by rising number.
-    pub segments: Segments,
+    pub segments: Sequence<Segment>,
     /// The half-made files among them and above them.
-    pub half: Numbers,
+    pub half: Sequence<u64>,
     /// The files below them.
-    pub older: Numbers,
+    pub older: Sequence<u64>,
     /// The greatest number of all files, or 0 where there is none.
     pub greatest: u64,
     /// The LSN that the next record gets.

@@ -6,7 +6,7 @@ ghost use Rattle.frs_segment.specs.Scanning.{FillBody, RefusesRecords, TellsReco
 use crate::fault::ScanFault;
 use crate::layout::ChunkPlace;
 use frs_frame::{FrameFault, decode};
-use frs_types::{Action, NoMemory, Record};
+use frs_types::{Action, NUMBER_LIMIT, NoMemory, Record};
 use std::alloc::Global;
 
 // The records that the place tells, which fill these bytes exactly.
@@ -15,7 +15,7 @@ pub(crate) fn records_of(
     body: &[u8],
     place: &ChunkPlace,
 ) -> Result<Vec<Record>, ScanFault>
-    requires { place.now.first + place.now.count ≤ 2 ^ 62 }
+    requires { place.now.first + place.now.count ≤ NUMBER_LIMIT }
     ensures found { IfOk result (λ records. FillBody place.now body.now records.items) }
     ensures why { IfErr result (RefusesRecords place.now body.now) }
 {

@@ -80,7 +80,7 @@ fn disk_with(alloc: Global, bytes: Vec<u8>) -> Result<MemDisk, NoMemory>
 fn scanned(alloc: Global, bytes: Vec<u8>) -> Result<Answer, NoMemory> {
     let mut disk = disk_with(alloc, bytes)?;
     match scan(alloc, &mut disk, 1) {
-        Ok(found) => Ok(Ok((found.chunks.places().len(), found.end, found.length))),
+        Ok(found) => Ok(Ok((found.chunks.items().len(), found.end, found.length))),
         Err(ScanFault::Memory) => Err(NoMemory),
         Err(fault) => Ok(Err(fault)),
     }

@@ -1,5 +1,5 @@
 use Rattle.std.proofs.Common.{arith, sym, ◌∙◌}
-use Rattle.frs_segment.proofs.Bodies.{no_other, none_read}
+use Rattle.frs_segment.proofs.FillBody.{no_other, none_read}
 use Rattle.frs_segment.proofs.records.record_at.Goals as goal
 
 pub returns-then-not-suits : goal.returns-then-not-suits

@@ -1,7 +1,7 @@
 use Rattle.std.proofs.Common.{◌≡◌, ◌∙◌, ◌+◌, ℕ, None, Some, refl, subst, sym, ap, arith, length}
 use Rattle.std.proofs.lemmas.Bool.{eqb-false}
 use Rattle.frs_segment.specs.Scanning.{TellsRecord}
-use Rattle.frs_segment.proofs.Bodies.{stand_more, stops, bytes_left}
+use Rattle.frs_segment.proofs.FillBody.{stand_more, stops, bytes_left}
 use Rattle.frs_segment.proofs.records.records_of.Goals as goal
 
 pub returns-in_default-clause-why : goal.returns-in_default-clause-why

@@ -1,4 +1,4 @@
-use Rattle.frs_segment.proofs.Bodies.{Stand}
+use Rattle.frs_segment.proofs.FillBody.{Stand}
 use Rattle.frs_segment.proofs.records.records_of.Given as goal
 
 abbrev pub invariant-loop-i : goal.invariant-loop-i

@@ -1,5 +1,0 @@
-use Rattle.frs_segment.proofs.Total.{segment_or_refused, bytes_of}
-use Rattle.frs_segment.proofs.law.segment_or_refused.Goals as goal
-
-pub returns : goal.returns
-returns c file number all = segment_or_refused file number (bytes_of file.1 all)
