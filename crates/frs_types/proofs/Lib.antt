@@ -1,3 +1,4 @@
+pub mod Allowed
 pub mod LogExamples
 pub mod Results
 pub mod Truth
