@@ -8,6 +8,7 @@ use Rattle.std.proofs.lemmas.Grind.{flat_map-append}
 use Rattle.frs_types.specs.declared.record.Action.{Action}
 use Rattle.frs_types.specs.declared.record.Action.TheVariants.{Put, Remove, Delete, Begin, Commit, Compaction, Mark, Abandon}
 use Rattle.frs_types.specs.declared.record.Record.{Record}
+use Rattle.frs_types.proofs.Allowed.{allowed_at, allowed_joined}
 use Rattle.frs_types.specs.Records.{kind_allows, kind_permits, has_words, is_allowed, are_allowed_from, well_formed, Fits}
 use Rattle.frs_frame.specs.declared.fault.FrameFault.{FrameFault}
 use Rattle.frs_frame.specs.declared.fault.FrameFault.TheVariants as faults
@@ -108,13 +109,6 @@ body-append rs qs = flat_map-append spelling rs qs
 pub body_more : (rs : List Record) (r : Record) → body (rs ++ r ∷ []) ≡ body rs ++ spelling r
 body_more rs r = body-append rs (r ∷ []) ∙ ap (λ (x : List ℕ). body rs ++ x) (append-nil (spelling r))
 
-pub allowed_from-append : (n : ℕ) (rs : List Record) (r : Record) → IsTrue (are_allowed_from n rs) → IsTrue (is_allowed (n + length rs) r) → IsTrue (are_allowed_from n (rs ++ r ∷ []))
-allowed_from-append n [] r all is = let e : n + 0 ≡ n = omega arith in and_from (is_allowed n r) true (ap (λ (k : ℕ). is_allowed k r) (sym e) ∙ is) refl
-allowed_from-append n (q ∷ rs) r all is =
-    let parts = and_parts (is_allowed n q) (are_allowed_from (n + 1) rs) all in
-    let e : n + length (q ∷ rs) ≡ n + 1 + length rs = omega arith in
-    and_from (is_allowed n q) (are_allowed_from (n + 1) (rs ++ r ∷ [])) parts.0 (allowed_from-append (n + 1) rs r parts.1 (ap (λ (k : ℕ). is_allowed k r) (sym e) ∙ is))
-
 pub all_fit : (n : ℕ) (rs : List Record) → n + length rs ≤ 2 ^ 62 → IsTrue (are_allowed_from n rs) → AllByRecursion Fits rs
 all_fit n [] le all = tt
 all_fit n (r ∷ rs) le all =
@@ -158,15 +152,8 @@ pub stand_more : (place : ChunkPlace) (text : List ℕ) (rs : List Record) (coun
 stand_more place text rs count rest r len s tells = record {
   spelled = s.spelled ∙ ap (λ (x : List ℕ). body rs ++ x) tells.1 ∙ sym (append_assoc (body rs) (spelling r) (drop len rest)) ∙ ap (λ (x : List ℕ). x ++ drop len rest) (sym (body_more rs r));
   count_is = omega (arith, length-append rs (r ∷ []), s.count_is);
-  all = allowed_from-append place.first rs r s.all (ap (λ (n : ℕ). is_allowed (place.first + n) r) s.count_is ∙ tells.0);
+  all = allowed_joined place.first rs (r ∷ []) s.all (and_from (is_allowed (place.first + length rs) r) true (ap (λ (n : ℕ). is_allowed (place.first + n) r) s.count_is ∙ tells.0) refl);
 }
-
--- the record behind others may stand behind them
-allowed_at : (n : ℕ) (rs : List Record) (r : Record) (more : List Record) → IsTrue (are_allowed_from n (rs ++ r ∷ more)) → IsTrue (is_allowed (n + length rs) r)
-allowed_at n [] r more all = let e : n + 0 ≡ n = omega arith in ap (λ (k : ℕ). is_allowed k r) e ∙ (and_parts (is_allowed n r) (are_allowed_from (n + 1) more) all).0
-allowed_at n (q ∷ rs) r more all =
-    let e : n + length (q ∷ rs) ≡ n + 1 + length rs = omega arith in
-    ap (λ (k : ℕ). is_allowed k r) e ∙ allowed_at (n + 1) rs r more (and_parts (is_allowed n q) (are_allowed_from (n + 1) (rs ++ r ∷ more)) all).1
 
 fill_front : (place : ChunkPlace) (text : List ℕ) (rs : List Record) (count : ℕ) (rest : List ℕ) (qs : List Record) → place.first + place.count ≤ 2 ^ 62 → count ≤ place.count → Stand place text rs count rest → FillBody place text qs
     → (more : List Record) × (qs ≡ rs ++ more) × (rest ≡ body more)

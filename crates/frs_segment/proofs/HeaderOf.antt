@@ -17,8 +17,9 @@ use Rattle.frs_segment.specs.declared.fault.ScanFault.{ScanFault}
 use Rattle.frs_segment.specs.declared.fault.ScanFault.TheVariants.{HalfMade, BadHeader, BadChunk, NumberLimit, Disk, Memory}
 use Rattle.frs_segment.specs.Front.{header}
 use Rattle.frs_segment.specs.Segments.{File, WholeSegment, body, chunk_bytes, chunks_bytes, segment_spelling, end_of, is_chunk, are_chunks, is_open_file}
-use Rattle.frs_segment.specs.Scanning.{number_at, header_of, chunk_place, places_from, RefusesChunk, IsRefused, TellsChunk, TellsFile}
-use Rattle.frs_segment.proofs.IsChunk.{IsBytes, cut, passed, ok, ok_is, number_back64}
+use Rattle.frs_segment.specs.Scanning.{field_at, header_of, chunk_place, places_from, RefusesChunk, IsRefused, TellsChunk, TellsFile}
+use Rattle.frs_frame.proofs.Fields.{IsBytes}
+use Rattle.frs_segment.proofs.IsChunk.{cut, passed, ok, ok_is, number_back64}
 
 -- a header that has passed the tests
 pub record Headed (file : File) (first : ℕ) : Type 0 where
@@ -26,8 +27,8 @@ pub record Headed (file : File) (first : ℕ) : Type 0 where
   pub long : 23 ≤ length file.1
   pub letters : slice_range file.1 1 5 ≡ codes "FRSS"
   pub version : slice_index file.1 5 ≡ 1
-  pub number : number_at w64 6 file.1 ≡ file.0
-  pub first_is : number_at w64 14 file.1 ≡ first
+  pub number : field_at w64 6 file.1 ≡ file.0
+  pub first_is : field_at w64 14 file.1 ≡ first
   pub some : 1 ≤ first
   pub below : first < 2 ^ 62
 
@@ -40,7 +41,7 @@ at_most lsn first is lt = omega arith
 pub header_told : (file : File) (first : ℕ) → header_of file ≡ Ok first → Headed file first
 unfolding header_of
 header_told file first e =
-    let lsn = number_at w64 14 file.1 in
+    let lsn = field_at w64 14 file.1 in
     let letters = slice_range file.1 1 5 in
     let a = passed _ _ _ first e in
     let b = passed _ _ _ first a.1 in
@@ -55,7 +56,7 @@ header_told file first e =
       long = leb-true 23 (length file.1) opened.0;
       letters = (bytes_eq-Decides letters (codes "FRSS")).0 (not-false (bytes_eq letters (codes "FRSS")) b.0);
       version = eqb-true (slice_index file.1 5) 1 (not-false (eqb (slice_index file.1 5) 1) c.0);
-      number = eqb-true (number_at w64 6 file.1) file.0 (not-false (eqb (number_at w64 6 file.1) file.0) d.0);
+      number = eqb-true (field_at w64 6 file.1) file.0 (not-false (eqb (field_at w64 6 file.1) file.0) d.0);
       first_is = is;
       some = at_least lsn first is (eqb-false lsn 0 f.0);
       below = at_most lsn first is (leb-false (2 ^ 62) lsn g.0);
@@ -64,12 +65,12 @@ header_told file first e =
 pub header_again : (file : File) (first : ℕ) → Headed file first → header_of file ≡ Ok first
 unfolding header_of
 header_again file first h =
-    let lsn = number_at w64 14 file.1 in
+    let lsn = field_at w64 14 file.1 in
     let letters = slice_range file.1 1 5 in
     let a : not (is_open_file file) ≡ false = not_from_true (is_open_file file) (and_from (leb 23 (length file.1)) (eqb (slice_index file.1 0) 1) (le-leb _ _ h.long) (eq-eqb _ _ h.gate)) in
     let b : not (bytes_eq letters (codes "FRSS")) ≡ false = not_from_true _ ((bytes_eq-Decides letters (codes "FRSS")).1 h.letters) in
     let c : not (eqb (slice_index file.1 5) 1) ≡ false = not_from_true _ (eq-eqb _ _ h.version) in
-    let d : not (eqb (number_at w64 6 file.1) file.0) ≡ false = not_from_true _ (eq-eqb _ _ h.number) in
+    let d : not (eqb (field_at w64 6 file.1) file.0) ≡ false = not_from_true _ (eq-eqb _ _ h.number) in
     let f : eqb lsn 0 ≡ false = ne_eqb lsn 0 (λ zero_is. omega (arith, zero_is, h.first_is, h.some)) in
     let g : leb (2 ^ 62) lsn ≡ false = lt-leb _ _ (omega (arith, h.first_is, h.below)) in
     rw (a, b, c, d, f, g) (ap ok h.first_is)
@@ -94,8 +95,8 @@ headed_from file first tail e some number_below first_some first_below = record 
   long = omega (arith, ap length e, some);
   letters = ap (λ (x : List ℕ). slice_range x 1 5) e;
   version = ap (λ (x : List ℕ). slice_index x 5) e;
-  number = ap (number_at w64 6) e ∙ from_be_bytes-to_be_bytes_8 file.0 (omega (arith, number_below));
-  first_is = ap (number_at w64 14) e ∙ from_be_bytes-to_be_bytes_8 first (omega (arith, first_below));
+  number = ap (field_at w64 6) e ∙ from_be_bytes-to_be_bytes_8 file.0 (omega (arith, number_below));
+  first_is = ap (field_at w64 14) e ∙ from_be_bytes-to_be_bytes_8 first (omega (arith, first_below));
   some = first_some;
   below = first_below;
 }

@@ -7,11 +7,12 @@ use Rattle.std.proofs.lemmas.List.{take_at, drop-drop, drop_more, length-append,
 use Rattle.std.proofs.lemmas.Nat.{be_bytes_4, be_bytes_8, from_be_bytes-to_be_bytes_4, from_be_bytes-to_be_bytes_8}
 use Rattle.frs_types.specs.declared.record.Record.{Record}
 use Rattle.frs_types.specs.Records.{are_allowed_from}
+use Rattle.frs_frame.proofs.Fields.{IsBytes, IsBytes-drop}
 use Rattle.frs_segment.specs.declared.layout.ChunkPlace.{ChunkPlace}
 use Rattle.frs_segment.specs.declared.fault.ScanFault.{ScanFault}
 use Rattle.frs_segment.specs.declared.fault.ScanFault.TheVariants.{HalfMade, BadHeader, BadChunk, NumberLimit, Disk, Memory}
 use Rattle.frs_segment.specs.Segments.{body, chunk_bytes, is_chunk}
-use Rattle.frs_segment.specs.Scanning.{number_at, head_of, chunk_place, FillBody, IsChunk, RefusesChunk, RefusesRecords, TellsChunk}
+use Rattle.frs_segment.specs.Scanning.{field_at, head_of, chunk_place, FillBody, IsChunk, RefusesChunk, RefusesRecords, TellsChunk}
 use Rattle.frs_segment.proofs.FillBody.{body_least}
 
 -- ---- tests
@@ -23,15 +24,6 @@ passed false fault x y e = (refl, e)
 
 -- ---- numbers
 
-abbrev pub IsBytes : List ℕ → Type 0
-IsBytes text = (i : ℕ) → get_or text i 0 < 256
-
-pub IsBytes-drop : (n : ℕ) (text : List ℕ) → IsBytes text → IsBytes (drop n text)
-IsBytes-drop n text h i = rw get_or-drop (h (n + i))
-
-abbrev word_at : Width → ℕ → List ℕ → List ℕ
-word_at w at text = take (byte_len w) (drop at text)
-
 word_byte : (n at : ℕ) (text : List ℕ) → IsBytes text → (i : ℕ) → get_or (take n (drop at text)) i 0 < 256
 word_byte n at text fits i =
     elim (cases_lt i n) [
@@ -39,11 +31,11 @@ word_byte n at text fits i =
       | inr le ↦ rw (get_or_past (take n (drop at text)) i 0 (omega (arith, length-take n (drop at text)))) (omega arith)
     ]
 
-pub number_back32 : (at : ℕ) (text : List ℕ) → IsBytes text → at + 4 ≤ length text → to_be_bytes w32 (number_at w32 at text) ≡ take 4 (drop at text)
-number_back32 at text fits le = be_bytes_4 (take 4 (drop at text)) (number_at w32 at text) (omega (arith, length-take 4 (drop at text), length-drop at text)) (word_byte 4 at text fits) refl
+pub number_back32 : (at : ℕ) (text : List ℕ) → IsBytes text → at + 4 ≤ length text → to_be_bytes w32 (field_at w32 at text) ≡ take 4 (drop at text)
+number_back32 at text fits le = be_bytes_4 (take 4 (drop at text)) (field_at w32 at text) (omega (arith, length-take 4 (drop at text), length-drop at text)) (word_byte 4 at text fits) refl
 
-pub number_back64 : (at : ℕ) (text : List ℕ) → IsBytes text → at + 8 ≤ length text → to_be_bytes w64 (number_at w64 at text) ≡ take 8 (drop at text)
-number_back64 at text fits le = be_bytes_8 (take 8 (drop at text)) (number_at w64 at text) (omega (arith, length-take 8 (drop at text), length-drop at text)) (word_byte 8 at text fits) refl
+pub number_back64 : (at : ℕ) (text : List ℕ) → IsBytes text → at + 8 ≤ length text → to_be_bytes w64 (field_at w64 at text) ≡ take 8 (drop at text)
+number_back64 at text fits le = be_bytes_8 (take 8 (drop at text)) (field_at w64 at text) (omega (arith, length-take 8 (drop at text), length-drop at text)) (word_byte 8 at text fits) refl
 
 -- what stands from one offset to another, and behind it
 pub cut : (n at : ℕ) (text : List ℕ) → take n (drop at text) ++ drop (at + n) text ≡ drop at text
@@ -53,14 +45,14 @@ cut n at text = ap (λ (x : List ℕ). take n (drop at text) ++ x) (sym (drop-dr
 
 -- what a head tells that has passed the tests
 pub record Told (offset next : ℕ) (behind : List ℕ) (place : ChunkPlace) : Type 0 where
-  pub place_is : place ≡ record { offset = offset; first = next; count = number_at w32 4 behind; body = number_at w32 0 behind }
-  pub long : 16 + number_at w32 0 behind < length behind
-  pub some : 1 ≤ number_at w32 4 behind
-  pub few : number_at w32 4 behind ≤ 256
-  pub full : 1 ≤ number_at w32 0 behind
-  pub short : number_at w32 0 behind ≤ 2 ^ 20
-  pub there : number_at w64 8 behind ≡ next
-  pub within : next + number_at w32 4 behind ≤ 2 ^ 62
+  pub place_is : place ≡ record { offset = offset; first = next; count = field_at w32 4 behind; body = field_at w32 0 behind }
+  pub long : 16 + field_at w32 0 behind < length behind
+  pub some : 1 ≤ field_at w32 4 behind
+  pub few : field_at w32 4 behind ≤ 256
+  pub full : 1 ≤ field_at w32 0 behind
+  pub short : field_at w32 0 behind ≤ 2 ^ 20
+  pub there : field_at w64 8 behind ≡ next
+  pub within : next + field_at w32 4 behind ≤ 2 ^ 62
 
 abbrev pub ok : {A : Type 0} → A → Result A ScanFault
 ok x = Ok x
@@ -71,8 +63,8 @@ ok_is x y e = cc
 pub head_told : (offset next : ℕ) (behind : List ℕ) (place : ChunkPlace) → head_of offset next behind ≡ Ok place → Told offset next behind place
 unfolding head_of
 head_told offset next behind place e =
-    let n = number_at w32 0 behind in
-    let count = number_at w32 4 behind in
+    let n = field_at w32 0 behind in
+    let count = field_at w32 4 behind in
     let a = passed _ _ _ place e in
     let b = passed _ _ _ place a.1 in
     let c = passed _ _ _ place b.1 in
@@ -88,20 +80,20 @@ head_told offset next behind place e =
       few = leb-true count 256 counts.1;
       full = leb-true 1 n sizes.0;
       short = leb-true n (2 ^ 20) sizes.1;
-      there = eqb-true (number_at w64 8 behind) next (not-false (eqb (number_at w64 8 behind) next) f.0);
+      there = eqb-true (field_at w64 8 behind) next (not-false (eqb (field_at w64 8 behind) next) f.0);
       within = ltb-false (2 ^ 62) (next + count) g.0;
     }
 
 pub head_again : (offset next : ℕ) (behind : List ℕ) (place : ChunkPlace) → Told offset next behind place → head_of offset next behind ≡ Ok place
 unfolding head_of
 head_again offset next behind place t =
-    let n = number_at w32 0 behind in
-    let count = number_at w32 4 behind in
+    let n = field_at w32 0 behind in
+    let count = field_at w32 4 behind in
     let a : leb (length behind) 16 ≡ false = lt-leb _ _ (omega (arith, t.long)) in
     let b : leb (length behind) (16 + n) ≡ false = lt-leb _ _ t.long in
     let c : not (leb 1 count && leb count 256) ≡ false = not_from_true _ (and_from (leb 1 count) (leb count 256) (le-leb _ _ t.some) (le-leb _ _ t.few)) in
     let d : not (leb 1 n && leb n (2 ^ 20)) ≡ false = not_from_true _ (and_from (leb 1 n) (leb n (2 ^ 20)) (le-leb _ _ t.full) (le-leb _ _ t.short)) in
-    let f : not (eqb (number_at w64 8 behind) next) ≡ false = not_from_true _ (eq-eqb _ _ t.there) in
+    let f : not (eqb (field_at w64 8 behind) next) ≡ false = not_from_true _ (eq-eqb _ _ t.there) in
     let g : ltb (2 ^ 62) (next + count) ≡ false = le-ltb _ _ t.within in
     rw (a, b, c, d, f, g) (ap ok (sym t.place_is))
 
@@ -187,14 +179,14 @@ pub head_of_chunk : (offset first : ℕ) (behind : List ℕ) (rs : List Record) 
 head_of_chunk offset first behind rs gate rest e is within =
     let p = chunk_passes first rs is in
     let tail : behind ≡ to_be_bytes w32 (length (body rs)) ++ (to_be_bytes w32 (length rs) ++ (to_be_bytes w64 first ++ (body rs ++ gate ∷ rest))) = ap (drop 1) (e ∙ chunk_parts_is first rs (gate ∷ rest)) in
-    let n : number_at w32 0 behind ≡ length (body rs) = ap (number_at w32 0) tail ∙ from_be_bytes-to_be_bytes_4 (length (body rs)) (omega (arith, p.short)) in
-    let count : number_at w32 4 behind ≡ length rs = ap (number_at w32 4) tail ∙ from_be_bytes-to_be_bytes_4 (length rs) (omega (arith, p.few)) in
-    let there : number_at w64 8 behind ≡ first = ap (number_at w64 8) tail ∙ from_be_bytes-to_be_bytes_8 first (omega (arith, within)) in
+    let n : field_at w32 0 behind ≡ length (body rs) = ap (field_at w32 0) tail ∙ from_be_bytes-to_be_bytes_4 (length (body rs)) (omega (arith, p.short)) in
+    let count : field_at w32 4 behind ≡ length rs = ap (field_at w32 4) tail ∙ from_be_bytes-to_be_bytes_4 (length rs) (omega (arith, p.few)) in
+    let there : field_at w64 8 behind ≡ first = ap (field_at w64 8) tail ∙ from_be_bytes-to_be_bytes_8 first (omega (arith, within)) in
     let after : drop 16 behind ≡ body rs ++ gate ∷ rest = ap (drop 16) tail in
     let len : length behind ≡ 17 + length (body rs) + length rest = ap length tail ∙ omega (arith, length-append (body rs) (gate ∷ rest)) in
     let least = body_least rs in
     let t : Told offset first behind (chunk_place offset first rs) = record {
-      place_is = ap (λ (m : ℕ). record { offset = offset; first = first; count = m; body = length (body rs) }) (sym count) ∙ ap (λ (m : ℕ). record { offset = offset; first = first; count = number_at w32 4 behind; body = m }) (sym n);
+      place_is = ap (λ (m : ℕ). record { offset = offset; first = first; count = m; body = length (body rs) }) (sym count) ∙ ap (λ (m : ℕ). record { offset = offset; first = first; count = field_at w32 4 behind; body = m }) (sym n);
       long = omega (arith, n, len);
       some = omega (arith, count, p.some);
       few = omega (arith, count, p.few);

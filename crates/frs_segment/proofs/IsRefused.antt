@@ -13,8 +13,9 @@ use Rattle.frs_segment.specs.declared.fault.ScanFault.{ScanFault}
 use Rattle.frs_segment.specs.declared.fault.ScanFault.TheVariants.{HalfMade, BadHeader, BadChunk, NumberLimit, Disk, Memory}
 use Rattle.frs_segment.specs.Segments.{File, WholeSegment, IsSegment, body, chunk_bytes, segment_spelling, end_of, is_open_file}
 use Rattle.frs_segment.specs.Faults.{HasScanCause, GivesScanned}
-use Rattle.frs_segment.specs.Scanning.{number_at, header_of, head_of, chunk_place, places_of_segment, FillBody, IsChunk, RefusesChunk, IsRefused, RefusesRecords, RefusesPlace, TellsFile}
-use Rattle.frs_segment.proofs.IsChunk.{ok, IsBytes, IsBytes-drop, chunk_told, head_of_chunk, chunk_passes}
+use Rattle.frs_segment.specs.Scanning.{field_at, header_of, head_of, chunk_place, places_of_segment, FillBody, IsChunk, RefusesChunk, IsRefused, RefusesRecords, RefusesPlace, TellsFile}
+use Rattle.frs_frame.proofs.Fields.{IsBytes, IsBytes-drop}
+use Rattle.frs_segment.proofs.IsChunk.{ok, chunk_told, head_of_chunk, chunk_passes}
 use Rattle.frs_segment.proofs.OneSegment.{one_segment, not_both, one_fault, one_chunk}
 
 abbrev is_of_bytes : ScanFault → Bool
@@ -43,7 +44,7 @@ HeaderTells p file = (f : ScanFault) → header_of file ≡ Err f → p f ≡ tr
 header_of_bytes : (file : File) → HeaderTells is_of_bytes file
 unfolding header_of
 header_of_bytes file =
-    let lsn = number_at w64 14 file.1 in
+    let lsn = field_at w64 14 file.1 in
     told_by is_of_bytes _ HalfMade _ refl (told_by is_of_bytes _ (BadHeader 1) _ refl (told_by is_of_bytes _ (BadHeader 5) _ refl (told_by is_of_bytes _ (BadHeader 6) _ refl
     (told_by is_of_bytes _ (BadHeader 14) _ refl (told_by is_of_bytes _ (NumberLimit lsn) (Ok lsn) refl (not_told is_of_bytes lsn))))))
 
@@ -54,7 +55,7 @@ open_next false fault f x is e = absurd cc
 header_of_open : (file : File) → is_open_file file ≡ true → HeaderTells is_of_open file
 unfolding header_of
 header_of_open file is f e =
-    let lsn = number_at w64 14 file.1 in
+    let lsn = field_at w64 14 file.1 in
     told_by is_of_open _ (BadHeader 1) _ refl (told_by is_of_open _ (BadHeader 5) _ refl (told_by is_of_open _ (BadHeader 6) _ refl
     (told_by is_of_open _ (BadHeader 14) _ refl (told_by is_of_open _ (NumberLimit lsn) (Ok lsn) refl (not_told is_of_open lsn))))) f
     (open_next (is_open_file file) HalfMade f _ is e)
@@ -62,14 +63,14 @@ header_of_open file is f e =
 head_of_open : (offset next : ℕ) (behind : List ℕ) (f : ScanFault) → head_of offset next behind ≡ Err f → is_of_open f ≡ true
 unfolding head_of
 head_of_open offset next behind =
-    let n = number_at w32 0 behind in
-    let count = number_at w32 4 behind in
+    let n = field_at w32 0 behind in
+    let count = field_at w32 4 behind in
     let place : ChunkPlace = record { offset = offset; first = next; count = count; body = n } in
     told_by is_of_open (leb (length behind) 16) (BadChunk offset) _ refl
     (told_by is_of_open (leb (length behind) (16 + n)) (BadChunk offset) _ refl
     (told_by is_of_open (not (leb 1 count && leb count 256)) (BadChunk offset) _ refl
     (told_by is_of_open (not (leb 1 n && leb n (2 ^ 20))) (BadChunk offset) _ refl
-    (told_by is_of_open (not (eqb (number_at w64 8 behind) next)) (BadChunk offset) _ refl
+    (told_by is_of_open (not (eqb (field_at w64 8 behind) next)) (BadChunk offset) _ refl
     (told_by is_of_open (ltb (2 ^ 62) (next + count)) (NumberLimit (2 ^ 62)) (Ok place) refl (not_told is_of_open place))))))
 
 chunk_of_open : (offset next : ℕ) (behind : List ℕ) (f : ScanFault) → RefusesChunk offset next behind f → is_of_open f ≡ true

@@ -9,6 +9,8 @@ use Rattle.std.proofs.lemmas.Grind.{flat_map-append}
 use Rattle.frs_types.specs.declared.record.Record.{Record}
 use Rattle.frs_types.specs.Records.{Log, named_lowest, from_lowest}
 use Rattle.frs_segment.specs.Segments.{File, WholeSegment, IsSegment, FileList, records_of, all_records, first_alone_reaches, first_of, are_enough, SpellsBy, Spells}
+use Rattle.frs_types.proofs.Allowed.{lowest_behind}
+use Rattle.frs_segment.proofs.SpellsBy.{all_records-append, enough_reaches}
 use Rattle.frs_segment.proofs.OneSegment.{one_segment}
 
 -- files are one list of segments
@@ -48,25 +50,10 @@ ends (f ∷ a) x (g ∷ b) y e =
       | inr (m, p, q) ↦ inr (m, ap (λ (h : File). h ∷ b) (sym head) ∙ ap (λ (z : List File). f ∷ z) p, q)
     ]
 
--- the newest record is that of the last records
-last_behind : (o : Option Record) (front : List Record) (r : Record) (rs : List Record) → last_or o (front ++ r ∷ rs) ≡ last_or None (r ∷ rs)
-last_behind o [] r rs = refl
-last_behind o (q ∷ front) r rs = last_behind (Some q) front r rs
-
-lowest_behind : (front rs : List Record) → (rs ≡ [] → ⊥) → named_lowest (front ++ rs) ≡ named_lowest rs
-lowest_behind front [] some = absurd (some refl)
-lowest_behind front (r ∷ rs) some = ap (λ (o : Option Record). unwrap_or (option_map (λ (q : Record). q.lowest) o) 1) (last_behind None front r rs)
-
 -- files of which some aren't looked at have a record, and go back to where the newest one points
 looked_enough : (file : File) (older : FileList) (segments : List WholeSegment) (rs : List Record) → IsTrue (are_enough (file ∷ older) segments rs) → (rs ≡ [] → ⊥) × IsTrue (first_alone_reaches (named_lowest rs) segments)
 looked_enough file older segments [] is = absurd cc
 looked_enough file older segments (r ∷ rs) is = ((λ e. cc), is)
-
-enough_reaches : (older : FileList) (segments : List WholeSegment) (rs : List Record) → (rs ≡ [] → ⊥) → IsTrue (are_enough older segments rs) → IsTrue (first_alone_reaches (named_lowest rs) segments)
-enough_reaches [] segments [] some is = absurd (some refl)
-enough_reaches (file ∷ older) segments [] some is = absurd (some refl)
-enough_reaches [] segments (r ∷ rs) some is = is
-enough_reaches (file ∷ older) segments (r ∷ rs) some is = is
 
 -- no segments before others reach as far as these do
 no_further : (lowest : ℕ) (s : WholeSegment) (front segments : List WholeSegment) → IsTrue (first_alone_reaches lowest segments) → IsTrue (first_alone_reaches lowest ((s ∷ front) ++ segments)) → ⊥
@@ -77,9 +64,6 @@ no_further lowest s front (t ∷ segments) is more =
     let both = and_parts (list_all (λ (u : WholeSegment). ltb lowest u.first) front) (list_all (λ (u : WholeSegment). ltb lowest u.first) (t ∷ segments)) (sym (list_all-append (λ (u : WholeSegment). ltb lowest u.first) front (t ∷ segments)) ∙ above) in
     let first = (and_parts (ltb lowest t.first) (list_all (λ (u : WholeSegment). ltb lowest u.first) segments) both.1).0 in
     omega (arith, leb-true t.first lowest reaches, ltb-true lowest t.first first)
-
-all_records-append : (a b : List WholeSegment) → all_records (a ++ b) ≡ all_records a ++ all_records b
-all_records-append a b = flat_map-append records_of a b
 
 begins : (xs : List File) (f : File) (m : List File) → (g : File) × (gs : List File) × (xs ++ f ∷ m ≡ g ∷ gs)
 begins [] f m = (f, m, refl)

@@ -11,7 +11,7 @@ use Rattle.frs_types.specs.declared.record.Record.{Record}
 use Rattle.frs_segment.specs.declared.fault.ScanFault.{ScanFault}
 use Rattle.frs_segment.specs.Front.{header}
 use Rattle.frs_segment.specs.Segments.{File, WholeSegment, IsSegment, body, chunk_bytes, chunks_bytes, segment_spelling, end_of, is_chunk, are_chunks}
-use Rattle.frs_segment.specs.Scanning.{number_at, header_of, head_of, RefusesChunk, RefusesBody, IsRefused}
+use Rattle.frs_segment.specs.Scanning.{field_at, header_of, head_of, RefusesChunk, RefusesBody, IsRefused}
 use Rattle.frs_segment.proofs.FillBody.{all_fit, one_body}
 use Rattle.frs_segment.proofs.IsChunk.{ok_is, chunk_passes, not_refused}
 use Rattle.frs_segment.proofs.SegmentIn.{flat}
@@ -24,7 +24,7 @@ pub one_chunk : (first : ℕ) (c d : List Record) (u v : List ℕ) → IsTrue (i
 one_chunk first c d u v is_c is_d below_c below_d e =
     let p = chunk_passes first c is_c in
     let q = chunk_passes first d is_d in
-    let len : length (body c) ≡ length (body d) = sym (from_be_bytes-to_be_bytes_4 (length (body c)) (omega (arith, p.short))) ∙ ap (number_at w32 1) e ∙ from_be_bytes-to_be_bytes_4 (length (body d)) (omega (arith, q.short)) in
+    let len : length (body c) ≡ length (body d) = sym (from_be_bytes-to_be_bytes_4 (length (body c)) (omega (arith, p.short))) ∙ ap (field_at w32 1) e ∙ from_be_bytes-to_be_bytes_4 (length (body d)) (omega (arith, q.short)) in
     let tail : body c ++ u ≡ body d ++ v = ap (drop 17) e in
     let bodies : body c ≡ body d = sym (take_at (body c) u (length (body c)) refl) ∙ ap (take (length (body c))) tail ∙ take_at (body d) v (length (body c)) (sym len) in
     let rests : u ≡ v = sym (drop_at (body c) u (length (body c)) refl) ∙ ap (drop (length (body c))) tail ∙ drop_at (body d) v (length (body c)) (sym len) in
@@ -82,7 +82,7 @@ stays_shut : (n : ℕ) (more : List (List Record)) (gate : ℕ) (rest y : List �
 stays_shut n [] gate rest y shut e = refl
 stays_shut n (c ∷ more) gate rest y shut e = absurd (both_ways (eqb gate 1) (not-true (eqb gate 1) shut) (eq-eqb gate 1 (ap (λ (x : List ℕ). slice_index x 0) e)))
 
-behind_chunks : (n : ℕ) (chunks : List (List Record)) (gate : ℕ) (rest : List ℕ) → (g : ℕ) × (r : List ℕ) × (chunks_bytes n chunks ++ gate ∷ rest ≡ g ∷ r)
+pub behind_chunks : (n : ℕ) (chunks : List (List Record)) (gate : ℕ) (rest : List ℕ) → (g : ℕ) × (r : List ℕ) × (chunks_bytes n chunks ++ gate ∷ rest ≡ g ∷ r)
 behind_chunks n [] gate rest = (gate, rest, refl)
 behind_chunks n (c ∷ chunks) gate rest = (1, drop 1 (chunks_bytes n (c ∷ chunks) ++ gate ∷ rest), refl)
 

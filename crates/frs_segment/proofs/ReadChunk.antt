@@ -13,8 +13,9 @@ use Rattle.frs_segment.specs.declared.fault.ScanFault.{ScanFault}
 use Rattle.frs_segment.specs.declared.fault.ScanFault.TheVariants.{HalfMade, BadHeader, BadChunk, NumberLimit, Disk, Memory}
 use Rattle.frs_segment.specs.Segments.{File, WholeSegment, IsSegment, body, chunk_bytes, segment_spelling, end_of, is_open_file}
 use Rattle.frs_segment.specs.Faults.{HasScanCause, GivesScanned}
-use Rattle.frs_segment.specs.Scanning.{number_at, header_of, head_of, chunk_place, places_of_segment, FillBody, IsChunk, RefusesChunk, IsRefused, RefusesRecords, RefusesPlace, TellsFile}
-use Rattle.frs_segment.proofs.IsChunk.{ok, IsBytes, IsBytes-drop, chunk_told, head_of_chunk, chunk_passes}
+use Rattle.frs_segment.specs.Scanning.{field_at, header_of, head_of, chunk_place, places_of_segment, FillBody, IsChunk, RefusesChunk, IsRefused, RefusesRecords, RefusesPlace, TellsFile}
+use Rattle.frs_frame.proofs.Fields.{IsBytes, IsBytes-drop}
+use Rattle.frs_segment.proofs.IsChunk.{ok, chunk_told, head_of_chunk, chunk_passes}
 use Rattle.frs_segment.proofs.OneSegment.{one_segment, not_both, one_fault, one_chunk}
 
 pub place_is : (place : ChunkPlace) (text : List ℕ) (rs : List Record) → IsChunk place text rs → chunk_place place.offset place.first rs ≡ place
@@ -77,10 +78,6 @@ chunk_longer n place text rs is = record {
 -- at one place stands one chunk
 pub one_at : (place : ChunkPlace) (text : List ℕ) (rs qs : List Record) → IsChunk place text rs → IsChunk place text qs → rs ≡ qs
 one_at place text rs qs is it = (one_chunk place.first rs qs (is.gate ∷ is.rest) (it.gate ∷ it.rest) is.chunk it.chunk is.within it.within (sym is.spelled ∙ it.spelled)).0
-
-pub if_ok : {X E : Type 0} (P Q : X → Type 0) (r : Result X E) → ((x : X) → P x → Q x) → IfOk r P → IfOk r Q
-if_ok P Q (Ok x) f p = f x p
-if_ok P Q (Err e) f p = p
 
 abbrev pub Records : Type 0
 Records = Vec Record Global

@@ -14,20 +14,14 @@ use Rattle.frs_segment.specs.declared.fault.ScanFault.TheVariants.{BadChunk}
 use Rattle.frs_segment.specs.Segments.{File, WholeSegment, IsSegment}
 use Rattle.frs_segment.specs.Scanning.{header_of, head_of, FillBody, RefusesChunk, IsRefused, TellsChunk, TellsRecord}
 use Rattle.frs_segment.proofs.FillBody.{Stand, stand_more, stops, bytes_left, filled, no_other, allowed_fits, permitted}
-use Rattle.frs_segment.proofs.IsChunk.{IsBytes, IsBytes-drop, head_told, chunk_told}
+use Rattle.frs_frame.proofs.Fields.{IsBytes, IsBytes-drop, IsBytes-take}
+use Rattle.frs_segment.proofs.IsChunk.{head_told, chunk_told}
 use Rattle.frs_segment.proofs.SegmentIn.{Reached, reach_start, reach_more, reach_end, reach_refused}
 
 -- what a result is
 which : {A E : Type 0} (r : Result A E) → ((x : A) × (r ≡ Ok x)) ⊎ ((fault : E) × (r ≡ Err fault))
 which (Ok x) = inl (x, refl)
 which (Err fault) = inr (fault, refl)
-
-IsBytes-take : (n : ℕ) (text : List ℕ) → IsBytes text → IsBytes (take n text)
-IsBytes-take n text fits i =
-    elim (cases_lt i n) [
-      | inl lt ↦ rw (get_or-take n text i 0 lt) (fits i)
-      | inr le ↦ rw (get_or_past (take n text) i 0 (omega (arith, length-take n text))) (omega arith)
-    ]
 
 -- ---- one record
 

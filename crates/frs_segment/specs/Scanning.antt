@@ -31,8 +31,8 @@ places_of_segment s = record { number = s.number; first = s.first; «end» = end
 -- ---- the fields of a file's header and of a chunk's head
 
 -- the number that stands at an offset
-abbrev pub number_at : Width → ℕ → List ℕ → ℕ
-number_at width at bytes = from_be_bytes width (take (byte_len width) (drop at bytes))
+abbrev pub field_at : Width → ℕ → List ℕ → ℕ
+field_at width at bytes = from_be_bytes width (take (byte_len width) (drop at bytes))
 
 -- The first LSN that the header names, or what is wrong first: the file is half-made, or its letters, its version, its
 -- number or its first LSN is wrong, or this LSN is too large.
@@ -41,10 +41,10 @@ header_of file =
     if not (is_open_file file) then Err HalfMade else
     if not (bytes_eq (slice_range file.1 1 5) (codes "FRSS")) then Err (BadHeader 1) else
     if not (slice_index file.1 5 == 1) then Err (BadHeader 5) else
-    if not (number_at w64 6 file.1 == file.0) then Err (BadHeader 6) else
-    if number_at w64 14 file.1 == 0 then Err (BadHeader 14) else
-    if nat_le NUMBER_LIMIT (number_at w64 14 file.1) then Err (NumberLimit (number_at w64 14 file.1)) else
-    Ok (number_at w64 14 file.1)
+    if not (field_at w64 6 file.1 == file.0) then Err (BadHeader 6) else
+    if field_at w64 14 file.1 == 0 then Err (BadHeader 14) else
+    if nat_le NUMBER_LIMIT (field_at w64 14 file.1) then Err (NumberLimit (field_at w64 14 file.1)) else
+    Ok (field_at w64 14 file.1)
 
 -- The chunk whose open gate stands at the offset, as its head tells it, where the LSN that follows on is next. Before
 -- its records are looked at: its bytes and the gate behind them are there, its count, its length and its first LSN are
@@ -52,12 +52,12 @@ header_of file =
 unfoldable pub head_of : ℕ → ℕ → List ℕ → Result ChunkPlace ScanFault
 head_of offset next behind =
     if nat_le (length behind) CHUNK_HEAD then Err (BadChunk offset) else
-    if nat_le (length behind) (CHUNK_HEAD + number_at w32 0 behind) then Err (BadChunk offset) else
-    if not (nat_le 1 (number_at w32 4 behind) && nat_le (number_at w32 4 behind) MOST_RECORDS) then Err (BadChunk offset) else
-    if not (nat_le 1 (number_at w32 0 behind) && nat_le (number_at w32 0 behind) BODY_LIMIT) then Err (BadChunk offset) else
-    if not (number_at w64 8 behind == next) then Err (BadChunk offset) else
-    if nat_lt NUMBER_LIMIT (next + number_at w32 4 behind) then Err (NumberLimit NUMBER_LIMIT) else
-    Ok (record { offset = offset; first = next; count = number_at w32 4 behind; body = number_at w32 0 behind })
+    if nat_le (length behind) (CHUNK_HEAD + field_at w32 0 behind) then Err (BadChunk offset) else
+    if not (nat_le 1 (field_at w32 4 behind) && nat_le (field_at w32 4 behind) MOST_RECORDS) then Err (BadChunk offset) else
+    if not (nat_le 1 (field_at w32 0 behind) && nat_le (field_at w32 0 behind) BODY_LIMIT) then Err (BadChunk offset) else
+    if not (field_at w64 8 behind == next) then Err (BadChunk offset) else
+    if nat_lt NUMBER_LIMIT (next + field_at w32 4 behind) then Err (NumberLimit NUMBER_LIMIT) else
+    Ok (record { offset = offset; first = next; count = field_at w32 4 behind; body = field_at w32 0 behind })
 
 -- ---- a chunk's records
 

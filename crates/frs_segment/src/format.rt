@@ -4,7 +4,7 @@ ghost use Rattle.std.specs.Prelude.{◌≡◌, ◌+◌, ◌<◌, ◌≤◌, IfOk
 ghost use Rattle.std.specs.Int.{w32, w64};
 ghost use Rattle.std.specs.Str.{bytes_eq};
 ghost use Rattle.frs_segment.specs.Front.{closed_header, chunk_head};
-ghost use Rattle.frs_segment.specs.Scanning.{number_at, header_of, head_of};
+ghost use Rattle.frs_segment.specs.Scanning.{field_at, header_of, head_of};
 
 use crate::fault::ScanFault;
 use crate::layout::ChunkPlace;
@@ -56,7 +56,7 @@ pub fn chunk_head(body: u32, count: u32, first: u64) -> [u8; CHUNK_HEAD]
 // The number of four bytes at an offset.
 fn u32_at(bytes: &[u8], at: usize) -> u32
     requires { at + 4 ≤ length bytes.now }
-    ensures { result ≡ number_at w32 at bytes.now }
+    ensures { result ≡ field_at w32 at bytes.now }
 {
     let field = &bytes[at..at + 4];
     u32::from_be_bytes([field[0], field[1], field[2], field[3]])
@@ -65,7 +65,7 @@ fn u32_at(bytes: &[u8], at: usize) -> u32
 // The number of eight bytes at an offset.
 fn u64_at(bytes: &[u8], at: usize) -> u64
     requires { at + 8 ≤ length bytes.now }
-    ensures { result ≡ number_at w64 at bytes.now }
+    ensures { result ≡ field_at w64 at bytes.now }
 {
     let field = &bytes[at..at + 8];
     u64::from_be_bytes([

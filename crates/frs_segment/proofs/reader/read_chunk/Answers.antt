@@ -1,7 +1,8 @@
 use Rattle.std.proofs.Common.{◌≡◌, ◌∙◌, ◌+◌, ℕ, List, drop, take, subst, sym, ap, IsTrue}
 use Rattle.frs_disk.specs.Disk.{bytes_at}
 use Rattle.frs_segment.specs.Scanning.{IsChunk}
-use Rattle.frs_segment.proofs.ReadChunk.{Records, chunk_shorter, chunk_longer, chunk_read, if_ok}
+use Rattle.frs_types.proofs.Results.{if_ok}
+use Rattle.frs_segment.proofs.ReadChunk.{Records, chunk_shorter, chunk_longer, chunk_read}
 use Rattle.frs_segment.proofs.reader.read_chunk.Goals as goal
 
 pub returns-clause-found : goal.returns-clause-found

@@ -5,7 +5,7 @@ use Rattle.std.specs.Cmp.{nat_cmp_total}
 use Rattle.std.specs.Ordering.{nat_cmp}
 use Rattle.frs_disk.specs.Disk.{Image}
 use Rattle.frs_disk.specs.Files.{plain_files}
-use Rattle.frs_segment.proofs.ReadChunk.{if_ok}
+use Rattle.frs_types.proofs.Results.{if_ok}
 use Rattle.frs_segment.proofs.tests.disk_with.Goals as goal
 
 one_file : (image : Image) (files : List (ℕ × Vec ℕ Global)) (bytes : Vec ℕ Global) → image ≡ from_entries (plain_files files) → files ≡ (1, bytes) ∷ [] → IsSome (get image 1)

@@ -1,9 +1,9 @@
 use Rattle.std.proofs.Common.{length}
 use Rattle.std.specs.FinMap.{get}
 use Rattle.frs_disk.specs.Disk.{Image, OnFile, Torn}
+use Rattle.frs_disk.specs.CallLaws.{on_file_same}
 use Rattle.frs_disk.proofs.Moments.{within_call, within_join}
 use Rattle.frs_disk.proofs.Frames.{only_reads_call, changes_one_call, changes_one_read, changes_one_join}
-use Rattle.frs_segment.proofs.IsInTheMaking.{same_file}
 use Rattle.frs_segment.proofs.writer.write_durably.Goals as goal
 
 pub returns-in_err-write-clause-frame : goal.returns-in_err-write-clause-frame
@@ -23,7 +23,7 @@ returns-clause-frame g c =
 pub returns-in_err-write-clause-images : goal.returns-in_err-write-clause-images
 returns-in_err-write-clause-images g c =
     within_call g.D.Disk c.args.disk.now c.write.new.self _ c.write.ensures.time
-    (λ x left. (x, left, same_file _ _ _))
+    (λ x left. (x, left, on_file_same _ _ _))
     (λ x left. let from = c.write.ensures.crash x left in (from.0, from.1, from.2.file))
 
 pub returns-clause-images : goal.returns-clause-images
@@ -33,5 +33,5 @@ returns-clause-images g c =
     let torn : (x : Image) → d.may_leave c.write.new.self x → (y : Image) × d.may_leave c.args.disk.now y × OnFile (Torn c.args.at (length c.args.bytes.now)) (get y n) (get x n) =
     λ x left. let from = c.write.ensures.crash x left in (from.0, from.1, from.2.file) in
     within_join d c.args.disk.now c.write.new.self c.sync.new.self _ c.write.ensures.time.passes c.sync.ensures.time.passes
-    (within_call d c.args.disk.now c.write.new.self _ c.write.ensures.time (λ x left. (x, left, same_file _ _ _)) torn)
+    (within_call d c.args.disk.now c.write.new.self _ c.write.ensures.time (λ x left. (x, left, on_file_same _ _ _)) torn)
     (within_call d c.write.new.self c.sync.new.self _ c.sync.ensures.time torn (λ x left. torn x (c.sync.ensures.crash x left)))
