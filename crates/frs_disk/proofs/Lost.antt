@@ -7,8 +7,8 @@ use Rattle.frs_disk.specs.declared.calls.Call.{Call}
 use Rattle.frs_disk.specs.declared.calls.Call.TheVariants.{Segments, Create, Length, Read, Write, Sync, Remove}
 use Rattle.frs_disk.specs.declared.calls.Made.{Made}
 use Rattle.frs_disk.specs.Calls.{image_after, image_after_calls, chosen_image, chosen_made, SyncsMade, HasSynced, IsAsSynced}
-use Rattle.frs_disk.specs.CallLaws.{replayed-push}
-use Rattle.frs_disk.specs.Choices.{mixed_here, mixed_other}
+use Rattle.frs_disk.proofs.LongerRecords.{replayed-push}
+use Rattle.frs_disk.proofs.Choices.{mixed_here, mixed_other}
 
 -- what one call does to the file: nothing, or it is its sync
 abbrev Step : Made → Image → Image → ℕ → Type 0

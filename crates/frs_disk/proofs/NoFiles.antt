@@ -2,7 +2,7 @@
 use Rattle.std.proofs.Common.{◌≡◌, ◌∙◌, ℕ, List, [], ap, sym}
 use Rattle.std.specs.Ordering.{nat_cmp}
 use Rattle.std.specs.FinMap.{entries, empty, entries-from_sorted}
-use Rattle.frs_disk.specs.Choices.{image_of-none}
+use Rattle.frs_disk.proofs.Choices.{image_of-none}
 use Rattle.frs_disk.specs.Disk.{Image}
 
 pub entries_empty : entries {X = List ℕ} {R = nat_cmp} empty ≡ []

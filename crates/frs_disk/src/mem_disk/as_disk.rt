@@ -5,8 +5,8 @@ ghost use Rattle.std.specs.FinMap.{get, keys, same_entries_map};
 ghost use Rattle.std.specs.List.Sorted.{IsStrictlyIncreasing};
 ghost use Rattle.frs_disk.specs.Disk.{Image, bytes_at, bytes_after_write, IsNumber, ChangesFile, OnFile, Torn, Created, Removed, Follows, Keeps, Elapses, HasCause};
 ghost use Rattle.frs_disk.specs.Calls.{image_after_calls, MayLeave};
-ghost use Rattle.frs_disk.specs.Choices.{held_numbered};
-ghost use Rattle.frs_disk.specs.CallLaws.{now_counts, now_only, earlier_since, read_leaves, absent_stays};
+ghost use Rattle.frs_disk.specs.RecordLaws.{held_numbered};
+ghost use Rattle.frs_disk.specs.RecordLaws.{now_counts, now_only, earlier_since, read_leaves, absent_stays};
 ghost use Rattle.frs_disk.specs.Plans.{start_of, files_of, record_of, faults_of, left_by, left_since_by, moment_of, removed_on, Plays};
 
 use super::MemDisk;

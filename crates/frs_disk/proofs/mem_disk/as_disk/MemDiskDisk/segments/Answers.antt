@@ -6,7 +6,7 @@ use Rattle.frs_disk.specs.Disk.{IsNumber}
 use Rattle.std.specs.FinMap.{keys, is_sorted}
 use Rattle.std.specs.Ordering.{nat_cmp}
 use Rattle.frs_disk.specs.Files.{plain_files, image_of}
-use Rattle.frs_disk.specs.Choices.{held_numbered}
+use Rattle.frs_disk.specs.RecordLaws.{held_numbered}
 use Rattle.frs_disk.proofs.Numbers.{keys-image_of, rising_numbers, numbers_in_range}
 use Rattle.frs_disk.proofs.mem_disk.as_disk.MemDiskDisk.segments.Goals as goal
 
