@@ -1,7 +1,7 @@
 use Rattle.std.proofs.Common.{length}
 use Rattle.std.specs.FinMap.{get}
 use Rattle.frs_disk.specs.Disk.{Image, OnFile, Torn}
-use Rattle.frs_disk.specs.CallLaws.{on_file_same}
+use Rattle.frs_disk.specs.RecordLaws.{on_file_same}
 use Rattle.frs_disk.proofs.Moments.{within_call, within_join}
 use Rattle.frs_disk.proofs.Frames.{only_reads_call, changes_one_call, changes_one_read, changes_one_join}
 use Rattle.frs_segment.proofs.writer.write_durably.Goals as goal
