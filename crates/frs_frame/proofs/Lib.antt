@@ -1,3 +1,3 @@
-pub mod Renumbering
-pub mod Fields
-pub mod Reading
+pub mod WithNumbers
+pub mod Takes
+pub mod DecodingOf

@@ -4,6 +4,7 @@ use Rattle.std.specs.Int.{Width, w8, w16, w64, to_be_bytes}
 use Rattle.frs_types.specs.declared.record.Action.{Action}
 use Rattle.frs_types.specs.declared.record.Action.TheVariants.{Put, Remove, Delete, Begin, Commit, Compaction, Mark, Abandon}
 use Rattle.frs_types.specs.declared.record.Record.{Record}
+use Rattle.frs_frame.specs.declared.encoding.TheConstants.{RECORD_HEAD}
 use Rattle.frs_frame.specs.Kinds.{kind_of, code}
 
 -- the widths of the lengths that stand before words
@@ -40,9 +41,9 @@ unfoldable pub spelling : Record → List ℕ
 spelling r = code (kind_of r.action) ∷ numbers r.tx r.lowest r.named ++ payload r.action
 
 -- the record of an action with no number yet
-abbrev pub unnumbered : Action → Record
-unnumbered action = record { tx = 0; lowest = 0; named = 0; action = action }
+abbrev pub without_numbers : Action → Record
+without_numbers action = record { tx = 0; lowest = 0; named = 0; action = action }
 
 -- the bytes of a record with other numbers in its head
-unfoldable pub renumbered : ℕ → ℕ → ℕ → List ℕ → List ℕ
-renumbered tx lowest named bytes = take 1 bytes ++ numbers tx lowest named ++ drop 25 bytes
+unfoldable pub with_numbers : ℕ → ℕ → ℕ → List ℕ → List ℕ
+with_numbers tx lowest named bytes = take 1 bytes ++ numbers tx lowest named ++ drop RECORD_HEAD bytes

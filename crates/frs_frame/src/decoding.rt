@@ -1,7 +1,7 @@
 //! Reading records: each function reads one field at an offset, and gives it with the offset behind it.
 ghost use Rattle.std.specs.Prelude.{◌≡◌, ℕ, ◌+◌, ◌≤◌, List, ◌++◌, length, IfOk, IsTrue};
 ghost use Rattle.std.specs.Int.{w8, w16, w64};
-ghost use Rattle.frs_types.specs.declared.record.Record.{Record as Described};
+ghost use Rattle.frs_types.specs.declared.record.Record.{Record};
 ghost use Rattle.frs_types.specs.Records.{Fits, well_formed};
 ghost use Rattle.frs_frame.specs.Spelling.{spelling};
 ghost use Rattle.frs_frame.specs.Front.{StandsAtFront};
@@ -9,7 +9,7 @@ ghost use Rattle.frs_frame.specs.Decoding.{GivesDecoded, field, number_at, id_at
 
 use crate::fault::FrameFault;
 use crate::kind::Kind;
-use frs_types::{Action, Key, MapId, Record, Value};
+use frs_types::{Action, ID_LIMIT, Key, MapId, Record, VALUE_LIMIT, Value};
 use std::alloc::Global;
 
 // The numbers that stand in each record.
@@ -24,7 +24,7 @@ struct Head {
 #[tactic(auto, unfolding(crate::specs::Decoding::field))]
 fn field(bytes: &[u8], at: usize, len: usize) -> Result<(&[u8], usize), FrameFault>
     requires inside { at ≤ length bytes.now }
-    requires few { len ≤ 65535 }
+    requires few { len ≤ VALUE_LIMIT }
     ensures read { GivesDecoded (λ f. (f.0.now, f.1)) result (field bytes.now at (at + len)) }
     ensures found { IfOk result (λ f. (f.1 ≡ at + len) × (f.1 ≤ length bytes.now) × (length f.0.now ≡ len)) }
 {
@@ -74,7 +74,7 @@ fn u64_at(bytes: &[u8], at: usize) -> Result<(u64, usize), FrameFault>
     Ok((number, end))
 }
 
-// An id. Its length is tested before its bytes are looked for, so only memory can be missing at the end.
+// An id. Its length is if_holds before its bytes are looked for, so only memory can be missing at the end.
 #[tactic(auto, unfolding(crate::specs::Decoding::id_at, crate::specs::Decoding::word_at))]
 fn id_at(alloc: Global, bytes: &[u8], at: usize) -> Result<(MapId, usize), FrameFault>
     requires { at ≤ length bytes.now }
@@ -82,7 +82,7 @@ fn id_at(alloc: Global, bytes: &[u8], at: usize) -> Result<(MapId, usize), Frame
     ensures found { IfOk result (λ f. f.1 ≤ length bytes.now) }
 {
     let (len, start) = u8_at(bytes, at)?;
-    if len == 0 || len > 64 {
+    if len == 0 || len as usize > ID_LIMIT {
         return Err(FrameFault::Field { offset: at as u64 });
     }
     let (word, end) = field(bytes, start, len as usize)?;
@@ -92,7 +92,7 @@ fn id_at(alloc: Global, bytes: &[u8], at: usize) -> Result<(MapId, usize), Frame
     }
 }
 
-// A key. Its length is tested before its bytes are looked for, so only memory can be missing at the end.
+// A key. Its length is if_holds before its bytes are looked for, so only memory can be missing at the end.
 #[tactic(auto, unfolding(crate::specs::Decoding::key_at, crate::specs::Decoding::word_at))]
 fn key_at(alloc: Global, bytes: &[u8], at: usize) -> Result<(Key, usize), FrameFault>
     requires { at ≤ length bytes.now }
@@ -232,7 +232,7 @@ pub fn decode(alloc: Global, bytes: &[u8]) -> Result<(Record, u64), FrameFault>
     ensures found { IfOk result (λ x. StandsAtFront bytes.now x.0 x.1) }
 
     // What stands at the front and is allowed is read, unless memory runs out.
-    ensures only { (r : Described) (rest : List ℕ) → Fits r → IsTrue (well_formed r) → bytes.now ≡ spelling r ++ rest → GivesDecoded (λ x. x) result (Ok (r, length (spelling r))) }
+    ensures only { (r : Record) (rest : List ℕ) → Fits r → IsTrue (well_formed r) → bytes.now ≡ spelling r ++ rest → GivesDecoded (λ x. x) result (Ok (r, length (spelling r))) }
 
     // Which fault it is.
     ensures exact { GivesDecoded (λ x. x) result (decoding_of bytes.now) }

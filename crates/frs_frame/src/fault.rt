@@ -1,6 +1,5 @@
 //! Why no record stands at the front of bytes.
 ghost use Rattle.std.specs.Prelude.{◌≡◌};
-ghost use Rattle.frs_frame.specs.declared.fault.FrameFault.{FrameFault as Fault};
 ghost use Rattle.frs_frame.specs.declared.fault.FrameFault.TheVariants.{Memory};
 
 use frs_types::NoMemory;

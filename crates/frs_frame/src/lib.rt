@@ -2,15 +2,15 @@
 #![tactic(auto)]
 
 mod decoding;
+mod encoding;
 mod fault;
-mod framed;
 mod kind;
-mod law;
+mod spelling;
 
 pub use decoding::decode;
+pub use encoding::{Framed, RECORD_HEAD, RECORD_LIMIT, encode_payload};
 pub use fault::FrameFault;
-pub use framed::{Framed, encode_payload};
-pub use law::{allowed_is_well_formed, one_spelling, spelling_len};
+pub use spelling::{allowed_is_well_formed, one_spelling, spelling_len};
 
 #[cfg(test)]
 mod tests;

@@ -14,7 +14,7 @@ use Rattle.frs_frame.specs.declared.fault.FrameFault.{FrameFault}
 use Rattle.frs_frame.specs.declared.fault.FrameFault.TheVariants as faults
 use Rattle.frs_frame.specs.Spelling.{spelling}
 use Rattle.frs_frame.specs.Decoding.{FailsDecoding}
-use Rattle.frs_frame.proofs.Reading.{one_record, spelling_least}
+use Rattle.frs_frame.proofs.DecodingOf.{one_record, spelling_least}
 use Rattle.frs_segment.specs.declared.layout.ChunkPlace.{ChunkPlace}
 use Rattle.frs_segment.specs.Segments.{body}
 use Rattle.frs_segment.specs.Scanning.{FillBody, TellsRecord}

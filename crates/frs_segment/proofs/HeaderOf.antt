@@ -18,7 +18,7 @@ use Rattle.frs_segment.specs.declared.fault.ScanFault.TheVariants.{HalfMade, Bad
 use Rattle.frs_segment.specs.Front.{header}
 use Rattle.frs_segment.specs.Segments.{File, WholeSegment, body, chunk_bytes, chunks_bytes, segment_spelling, end_of, is_chunk, are_chunks, is_open_file}
 use Rattle.frs_segment.specs.Scanning.{field_at, header_of, chunk_place, places_from, RefusesChunk, IsRefused, TellsChunk, TellsFile}
-use Rattle.frs_frame.proofs.Fields.{IsBytes}
+use Rattle.frs_frame.proofs.Takes.{IsBytes}
 use Rattle.frs_segment.proofs.IsChunk.{cut, passed, ok, ok_is, number_back64}
 
 -- a header that has passed the tests

@@ -7,7 +7,7 @@ use Rattle.std.proofs.lemmas.List.{take_at, drop-drop, drop_more, length-append,
 use Rattle.std.proofs.lemmas.Nat.{be_bytes_4, be_bytes_8, from_be_bytes-to_be_bytes_4, from_be_bytes-to_be_bytes_8}
 use Rattle.frs_types.specs.declared.record.Record.{Record}
 use Rattle.frs_types.specs.Records.{are_allowed_from}
-use Rattle.frs_frame.proofs.Fields.{IsBytes, IsBytes-drop}
+use Rattle.frs_frame.proofs.Takes.{IsBytes, IsBytes-drop}
 use Rattle.frs_segment.specs.declared.layout.ChunkPlace.{ChunkPlace}
 use Rattle.frs_segment.specs.declared.fault.ScanFault.{ScanFault}
 use Rattle.frs_segment.specs.declared.fault.ScanFault.TheVariants.{HalfMade, BadHeader, BadChunk, NumberLimit, Disk, Memory}

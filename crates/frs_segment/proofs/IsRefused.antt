@@ -14,7 +14,7 @@ use Rattle.frs_segment.specs.declared.fault.ScanFault.TheVariants.{HalfMade, Bad
 use Rattle.frs_segment.specs.Segments.{File, WholeSegment, IsSegment, body, chunk_bytes, segment_spelling, end_of, is_open_file}
 use Rattle.frs_segment.specs.Faults.{HasScanCause, GivesScanned}
 use Rattle.frs_segment.specs.Scanning.{field_at, header_of, head_of, chunk_place, places_of_segment, FillBody, IsChunk, RefusesChunk, IsRefused, RefusesRecords, RefusesPlace, TellsFile}
-use Rattle.frs_frame.proofs.Fields.{IsBytes, IsBytes-drop}
+use Rattle.frs_frame.proofs.Takes.{IsBytes, IsBytes-drop}
 use Rattle.frs_segment.proofs.IsChunk.{ok, chunk_told, head_of_chunk, chunk_passes}
 use Rattle.frs_segment.proofs.OneSegment.{one_segment, not_both, one_fault, one_chunk}
 

@@ -7,14 +7,14 @@ use Rattle.frs_types.specs.declared.record.Record.{Record}
 use Rattle.frs_types.specs.Records.{is_allowed}
 use Rattle.frs_disk.specs.Disk.{IsNumber}
 use Rattle.frs_frame.specs.Decoding.{decoding_of}
-use Rattle.frs_frame.proofs.Reading.{decoded_takes, decoded_again}
+use Rattle.frs_frame.proofs.DecodingOf.{decoded_takes, decoded_again}
 use Rattle.frs_segment.specs.declared.layout.ChunkPlace.{ChunkPlace}
 use Rattle.frs_segment.specs.declared.fault.ScanFault.{ScanFault}
 use Rattle.frs_segment.specs.declared.fault.ScanFault.TheVariants.{BadChunk}
 use Rattle.frs_segment.specs.Segments.{File, WholeSegment, IsSegment}
 use Rattle.frs_segment.specs.Scanning.{header_of, head_of, FillBody, RefusesChunk, IsRefused, TellsChunk, TellsRecord}
 use Rattle.frs_segment.proofs.FillBody.{Stand, stand_more, stops, bytes_left, filled, no_other, allowed_fits, permitted}
-use Rattle.frs_frame.proofs.Fields.{IsBytes, IsBytes-drop, IsBytes-take}
+use Rattle.frs_frame.proofs.Takes.{IsBytes, IsBytes-drop, IsBytes-take}
 use Rattle.frs_segment.proofs.IsChunk.{head_told, chunk_told}
 use Rattle.frs_segment.proofs.SegmentIn.{Reached, reach_start, reach_more, reach_end, reach_refused}
 

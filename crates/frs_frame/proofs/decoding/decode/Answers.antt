@@ -1,6 +1,6 @@
 use Rattle.std.proofs.Common.{subst, arith}
 use Rattle.frs_frame.specs.Decoding.{GivesDecoded}
-use Rattle.frs_frame.proofs.Reading.{is_found, decoded_again}
+use Rattle.frs_frame.proofs.DecodingOf.{is_found, decoded_again}
 use Rattle.frs_frame.proofs.decoding.decode.Goals as goal
 
 pub returns-clause-found : goal.returns-clause-found

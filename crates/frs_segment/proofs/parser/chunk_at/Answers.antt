@@ -1,7 +1,7 @@
 use Rattle.std.proofs.Common.{◌≡◌, ◌∙◌, ◌+◌, ◌-◌, ℕ, List, Err, drop, take, subst, sym, ap, arith}
 use Rattle.std.proofs.lemmas.Result.{err_from_is_err_and}
 use Rattle.frs_segment.specs.Scanning.{TellsChunk, FillBody, RefusesRecords, head_of}
-use Rattle.frs_frame.proofs.Fields.{IsBytes, IsBytes-drop}
+use Rattle.frs_frame.proofs.Takes.{IsBytes, IsBytes-drop}
 use Rattle.frs_segment.proofs.IsChunk.{head_fails, records_fail, chunk_told}
 use Rattle.frs_segment.proofs.parser.chunk_at.Goals as goal
 

@@ -1,7 +1,7 @@
 use Rattle.std.proofs.Common.{◌≡◌, ◌-◌, ◌+◌, ℕ, drop, take, refl, subst, arith}
 use Rattle.std.proofs.lemmas.Bool.{iff_false}
 use Rattle.frs_segment.specs.Scanning.{FillBody, IsChunk}
-use Rattle.frs_frame.proofs.Fields.{IsBytes}
+use Rattle.frs_frame.proofs.Takes.{IsBytes}
 use Rattle.frs_types.proofs.Results.{if_ok}
 use Rattle.frs_segment.proofs.ReadChunk.{Records, chunk_begins, begun_chunk}
 use Rattle.frs_segment.proofs.reader.chunk_in.Goals as goal

@@ -3,7 +3,7 @@ use Rattle.std.proofs.Common.{◌≡◌, ℕ, ◌+◌, ◌^◌, ◌<◌, ◌≤�
 use Rattle.std.specs.Prelude.{IfOk}
 use Rattle.std.specs.List.{find}
 use Rattle.std.specs.Int.{w8, w16, w64, to_be_bytes}
-use Rattle.std.proofs.lemmas.Bool.{leb-true, eqb-true}
+use Rattle.std.proofs.lemmas.Bool.{leb-true, eqb-true, and_parts, and_from}
 use Rattle.std.proofs.lemmas.List.{take_at, drop_at, length-append}
 use Rattle.frs_types.specs.declared.record.Action.{Action}
 use Rattle.frs_types.specs.declared.record.Action.TheVariants as actions
@@ -15,20 +15,12 @@ use Rattle.frs_frame.specs.declared.kind.Kind.{Kind}
 use Rattle.frs_frame.specs.declared.kind.Kind.TheVariants.{Put, Remove, Delete, Begin, Commit, Compaction, Mark, Abandon}
 use Rattle.frs_frame.specs.Kinds.{kind_of, code, kinds, kind_of_byte, permits_tx, permits_named}
 use Rattle.frs_frame.specs.Spelling.{word_bytes, id_width, key_width, value_width, payload, numbers, spelling}
-use Rattle.frs_frame.specs.Decoding.{Read, ◌>>=◌, GivesDecoded, number_at, tested, id_at, key_at, value_at, action_at, kind_or_fault, kind_at, head_at, decoding_of}
+use Rattle.frs_frame.specs.Decoding.{Reading, ◌>>=◌, GivesDecoded, number_at, if_holds, id_at, key_at, value_at, action_at, kind_or_fault, kind_at, head_at, decoding_of}
 use Rattle.frs_frame.specs.Front.{StandsAtFront}
-use Rattle.frs_frame.proofs.Fields.{IsBytes, bind_ok, ok_is, tested_ok, Takes, Takes-then, Takes-split, Takes-front, wide8, wide16, wide64, number_takes, number_again, word_takes, word_again}
+use Rattle.frs_frame.proofs.Takes.{IsBytes, bind_ok, ok_is, if_holds_ok, Takes, Takes-then, Takes-split, Takes-front, wide8, wide16, wide64, number_takes, number_again, word_takes, word_again}
 
 abbrev some : {X : Type 0} → X → Option X
 some x = Some x
-
-both : (a b : Bool) → (a && b) ≡ true → (a ≡ true) × (b ≡ true)
-both true b e = (refl, e)
-both false b e = absurd cc
-
-both_true : (a b : Bool) → a ≡ true → b ≡ true → (a && b) ≡ true
-both_true true b p q = q
-both_true false b p q = absurd cc
 
 -- ---- words
 
@@ -47,13 +39,13 @@ value_takes bytes at x fits e = word_takes w16 (2 ^ 16) wide16 is_value_len byte
 id_again : (bytes : List ℕ) (at end : ℕ) (word : List ℕ) → is_id_len (length word) ≡ true → Takes bytes at (word_bytes id_width word) end → id_at bytes at ≡ Ok (word, end)
 unfolding id_at
 id_again bytes at end word is t =
-    let most = leb-true (length word) 64 (both (leb 1 (length word)) (leb (length word) 64) is).1 in
+    let most = leb-true (length word) 64 (and_parts (leb 1 (length word)) (leb (length word) 64) is).1 in
     word_again w8 (2 ^ 8) wide8 is_id_len bytes at end word (omega (arith, most)) is t
 
 key_again : (bytes : List ℕ) (at end : ℕ) (word : List ℕ) → is_key_len (length word) ≡ true → Takes bytes at (word_bytes key_width word) end → key_at bytes at ≡ Ok (word, end)
 unfolding key_at
 key_again bytes at end word is t =
-    let most = leb-true (length word) 255 (both (leb 1 (length word)) (leb (length word) 255) is).1 in
+    let most = leb-true (length word) 255 (and_parts (leb 1 (length word)) (leb (length word) 255) is).1 in
     word_again w8 (2 ^ 8) wide8 is_key_len bytes at end word (omega (arith, most)) is t
 
 value_again : (bytes : List ℕ) (at end : ℕ) (word : List ℕ) → is_value_len (length word) ≡ true → Takes bytes at (word_bytes value_width word) end → value_at bytes at ≡ Ok (word, end)
@@ -97,7 +89,7 @@ two_words bytes at x fits e =
     let i = id_takes bytes at a.0 fits a.1 in
     let k = key_takes bytes a.0.1 b.0 fits b.1 in
     let ik = Takes-then bytes at a.0.1 b.0.1 (word_bytes id_width a.0.0) (word_bytes key_width b.0.0) i.0 k.0 in
-    subst (TakesAction Remove bytes at) (ok_is (actions.Remove a.0.0 b.0.0, b.0.1) x b.2) (record { takes = ik; kind_is = refl; words = both_true (is_id_len (length a.0.0)) (is_key_len (length b.0.0)) i.1 k.1 })
+    subst (TakesAction Remove bytes at) (ok_is (actions.Remove a.0.0 b.0.0, b.0.1) x b.2) (record { takes = ik; kind_is = refl; words = and_from (is_id_len (length a.0.0)) (is_key_len (length b.0.0)) i.1 k.1 })
 
 one_word : (bytes : List ℕ) (at : ℕ) (x : Action × ℕ) → IsBytes bytes → action_at Delete bytes at ≡ Ok x → TakesAction Delete bytes at x
 unfolding action_at
@@ -107,7 +99,7 @@ one_word bytes at x fits e =
     subst (TakesAction Delete bytes at) (ok_is (actions.Delete a.0.0, a.0.1) x a.2) (record { takes = i.0; kind_is = refl; words = i.1 })
 
 all_words : (id key value : List ℕ) → is_id_len (length id) ≡ true → is_key_len (length key) ≡ true → is_value_len (length value) ≡ true → (is_id_len (length id) && is_key_len (length key) && is_value_len (length value)) ≡ true
-all_words id key value i k v = both_true (is_id_len (length id) && is_key_len (length key)) (is_value_len (length value)) (both_true (is_id_len (length id)) (is_key_len (length key)) i k) v
+all_words id key value i k v = and_from (is_id_len (length id) && is_key_len (length key)) (is_value_len (length value)) (and_from (is_id_len (length id)) (is_key_len (length key)) i k) v
 
 action_takes : (kind : Kind) (bytes : List ℕ) (at : ℕ) (x : Action × ℕ) → IsBytes bytes → at ≤ length bytes → action_at kind bytes at ≡ Ok x → TakesAction kind bytes at x
 unfolding action_at
@@ -138,8 +130,8 @@ three_again : (bytes : List ℕ) (at end : ℕ) (id key value : List ℕ) {X : T
     → Takes bytes at (word_bytes id_width id ++ word_bytes key_width key ++ word_bytes value_width value) end
     → (id_at bytes at >>= λ i. key_at bytes i.1 >>= λ k. value_at bytes k.1 >>= λ v. Ok (make i.0 k.0 v.0, v.1)) ≡ Ok (make id key value, end)
 three_again bytes at end id key value make words t =
-    let w = both (is_id_len (length id) && is_key_len (length key)) (is_value_len (length value)) words in
-    let ik = both (is_id_len (length id)) (is_key_len (length key)) w.0 in
+    let w = and_parts (is_id_len (length id) && is_key_len (length key)) (is_value_len (length value)) words in
+    let ik = and_parts (is_id_len (length id)) (is_key_len (length key)) w.0 in
     let s = Takes-split bytes at end (word_bytes id_width id ++ word_bytes key_width key) (word_bytes value_width value) t in
     let start = at + length (word_bytes id_width id ++ word_bytes key_width key) in
     let front = two_again bytes at start id key ik.0 ik.1 s.0 in
@@ -149,7 +141,7 @@ action_again : (action : Action) (bytes : List ℕ) (at end : ℕ) → has_words
 unfolding action_at
 action_again (actions.Put id key value) bytes at end words t = three_again bytes at end id key value actions.Put words t
 action_again (actions.Remove id key) bytes at end words t =
-    let ik = both (is_id_len (length id)) (is_key_len (length key)) words in
+    let ik = and_parts (is_id_len (length id)) (is_key_len (length key)) words in
     let front = two_again bytes at end id key ik.0 ik.1 t in
     rw (front.1, front.2) refl
 action_again (actions.Delete id) bytes at end words t = rw (id_again bytes at end id words t) refl
@@ -229,7 +221,7 @@ kind_again : (bytes : List ℕ) (kind : Kind) (end : ℕ) → Takes bytes 0 (cod
 unfolding kind_at
 kind_again bytes kind end t =
     let byte = number_again w8 (2 ^ 8) wide8 bytes 0 (code kind) end (code_below kind) (subst (λ (text : List ℕ). Takes bytes 0 text end) (sym (code_bytes kind)) t) in
-    ap (λ (r : Read ℕ). r >>= λ byte. kind_or_fault (kind_of_byte byte.0) byte) byte ∙ ap (λ (o : Option Kind). kind_or_fault o (code kind, end)) (kind_of_code kind)
+    ap (λ (r : Reading ℕ). r >>= λ byte. kind_or_fault (kind_of_byte byte.0) byte) byte ∙ ap (λ (o : Option Kind). kind_or_fault o (code kind, end)) (kind_of_code kind)
 
 -- ---- the numbers of the head
 
@@ -246,12 +238,12 @@ record TakesHead (kind : Kind) (bytes : List ℕ) (at : ℕ) (x : Head × ℕ) :
 head_takes : (kind : Kind) (bytes : List ℕ) (at : ℕ) (x : Head × ℕ) → IsBytes bytes → head_at kind bytes at ≡ Ok x → TakesHead kind bytes at x
 unfolding head_at
 head_takes kind bytes at x fits e =
-    let a = bind_ok (tested (permits_tx kind) at (number_at w64 bytes at)) (λ tx. tested (ltb 0) tx.1 (number_at w64 bytes tx.1) >>= λ lowest. tested (permits_named kind) lowest.1 (number_at w64 bytes lowest.1) >>= λ named. Ok (record { tx = tx.0; lowest = lowest.0; named = named.0 }, named.1)) x e in
-    let b = bind_ok (tested (ltb 0) a.0.1 (number_at w64 bytes a.0.1)) (λ lowest. tested (permits_named kind) lowest.1 (number_at w64 bytes lowest.1) >>= λ named. Ok (record { tx = a.0.0; lowest = lowest.0; named = named.0 }, named.1)) x a.2 in
-    let c = bind_ok (tested (permits_named kind) b.0.1 (number_at w64 bytes b.0.1)) (λ named. Ok (record { tx = a.0.0; lowest = b.0.0; named = named.0 }, named.1)) x b.2 in
-    let ta = tested_ok (permits_tx kind) at (number_at w64 bytes at) a.0 a.1 in
-    let tb = tested_ok (ltb 0) a.0.1 (number_at w64 bytes a.0.1) b.0 b.1 in
-    let tc = tested_ok (permits_named kind) b.0.1 (number_at w64 bytes b.0.1) c.0 c.1 in
+    let a = bind_ok (if_holds (permits_tx kind) at (number_at w64 bytes at)) (λ tx. if_holds (ltb 0) tx.1 (number_at w64 bytes tx.1) >>= λ lowest. if_holds (permits_named kind) lowest.1 (number_at w64 bytes lowest.1) >>= λ named. Ok (record { tx = tx.0; lowest = lowest.0; named = named.0 }, named.1)) x e in
+    let b = bind_ok (if_holds (ltb 0) a.0.1 (number_at w64 bytes a.0.1)) (λ lowest. if_holds (permits_named kind) lowest.1 (number_at w64 bytes lowest.1) >>= λ named. Ok (record { tx = a.0.0; lowest = lowest.0; named = named.0 }, named.1)) x a.2 in
+    let c = bind_ok (if_holds (permits_named kind) b.0.1 (number_at w64 bytes b.0.1)) (λ named. Ok (record { tx = a.0.0; lowest = b.0.0; named = named.0 }, named.1)) x b.2 in
+    let ta = if_holds_ok (permits_tx kind) at (number_at w64 bytes at) a.0 a.1 in
+    let tb = if_holds_ok (ltb 0) a.0.1 (number_at w64 bytes a.0.1) b.0 b.1 in
+    let tc = if_holds_ok (permits_named kind) b.0.1 (number_at w64 bytes b.0.1) c.0 c.1 in
     let na = number_takes w64 (2 ^ 64) wide64 bytes at a.0 fits ta.0 in
     let nb = number_takes w64 (2 ^ 64) wide64 bytes a.0.1 b.0 fits tb.0 in
     let nc = number_takes w64 (2 ^ 64) wide64 bytes b.0.1 c.0 fits tc.0 in
@@ -280,14 +272,14 @@ permits (actions.Compaction id key value) tx named = refl
 permits actions.Mark tx named = refl
 permits actions.Abandon tx named = refl
 
-long : (r : Record) → 25 ≤ length (spelling r)
+pub spelling_least : (r : Record) → 25 ≤ length (spelling r)
 unfolding spelling
-long r = omega arith
+spelling_least r = omega arith
 
 stands : (bytes : List ℕ) (r : Record) (len : ℕ) → Takes bytes 0 (spelling r) len → Fits r → well_formed r ≡ true → StandsAtFront bytes r len
 stands bytes r len t fits well =
     let len_is : len ≡ length (spelling r) = omega (arith, t.end_is) in
-    let least : 25 ≤ len = omega (arith, len_is, long r) in
+    let least : 25 ≤ len = omega (arith, len_is, spelling_least r) in
     record { front = ap (take len) t.parts ∙ take_at (spelling r) (drop len bytes) len (sym len_is); whole = t.parts; len_is = len_is; least = least; within = t.within; fits = fits; well_formed = well }
 
 -- what is read stands there
@@ -307,8 +299,8 @@ decoded_takes bytes x fits e =
     let r : Record = record { tx = b.0.0.tx; lowest = b.0.0.lowest; named = b.0.0.named; action = c.0.0 } in
     let tx_holds : permits_tx (kind_of c.0.0) r.tx ≡ true = subst (λ (z : Kind). permits_tx z r.tx ≡ true) (sym t.kind_is) h.tx_holds in
     let named_holds : permits_named (kind_of c.0.0) r.named ≡ true = subst (λ (z : Kind). permits_named z r.named ≡ true) (sym t.kind_is) h.named_holds in
-    let permitted : kind_permits r.action r.tx r.named ≡ true = permits r.action r.tx r.named ∙ both_true (permits_tx (kind_of r.action) r.tx) (permits_named (kind_of r.action) r.named) tx_holds named_holds in
-    let well : well_formed r ≡ true = both_true (kind_permits r.action r.tx r.named && ltb 0 r.lowest) (has_words r.action) (both_true (kind_permits r.action r.tx r.named) (ltb 0 r.lowest) permitted h.lowest_holds) t.words in
+    let permitted : kind_permits r.action r.tx r.named ≡ true = permits r.action r.tx r.named ∙ and_from (permits_tx (kind_of r.action) r.tx) (permits_named (kind_of r.action) r.named) tx_holds named_holds in
+    let well : well_formed r ≡ true = and_from (kind_permits r.action r.tx r.named && ltb 0 r.lowest) (has_words r.action) (and_from (kind_permits r.action r.tx r.named) (ltb 0 r.lowest) permitted h.lowest_holds) t.words in
     subst (λ (z : Record × ℕ). StandsAtFront bytes z.0 z.1) (ok_is (r, c.0.1) x c.2) (stands bytes r c.0.1 whole (record { tx = h.tx; lowest = h.lowest; named = h.named; words = t.words }) well)
 
 -- the fields of a record that stands at the front
@@ -332,16 +324,13 @@ pub decoded_again : (bytes : List ℕ) (r : Record) (rest : List ℕ) → Fits r
 unfolding decoding_of head_at
 decoded_again bytes r rest fits well e =
     let f = reads bytes r (length (spelling r)) fits (Takes-front bytes (spelling r) rest e) in
-    let w = both (kind_permits r.action r.tx r.named && ltb 0 r.lowest) (has_words r.action) well in
-    let pl = both (kind_permits r.action r.tx r.named) (ltb 0 r.lowest) w.0 in
-    let p = both (permits_tx (kind_of r.action) r.tx) (permits_named (kind_of r.action) r.named) (sym (permits r.action r.tx r.named) ∙ pl.0) in
+    let w = and_parts (kind_permits r.action r.tx r.named && ltb 0 r.lowest) (has_words r.action) well in
+    let pl = and_parts (kind_permits r.action r.tx r.named) (ltb 0 r.lowest) w.0 in
+    let p = and_parts (permits_tx (kind_of r.action) r.tx) (permits_named (kind_of r.action) r.named) (sym (permits r.action r.tx r.named) ∙ pl.0) in
     rw (f.kind, f.tx, p.0, f.lowest, pl.1, f.named, p.1, f.action) refl
 
-abbrev made : ℕ → ℕ → ℕ → Action → Record
-made tx lowest named action = record { tx = tx; lowest = lowest; named = named; action = action }
-
 -- two readings of one field agree
-same : {X : Type 0} (read : Read X) (x y : X × ℕ) → read ≡ Ok x → read ≡ Ok y → x ≡ y
+same : {X : Type 0} (read : Reading X) (x y : X × ℕ) → read ≡ Ok x → read ≡ Ok y → x ≡ y
 same read x y e f = ok_is x y (sym e ∙ f)
 
 -- two records at the front of the same bytes are one
@@ -360,8 +349,11 @@ one_record r q rest other fits fits' e =
     let both_actions : (r.action, n) ≡ (q.action, m) = same (action_at (kind_of r.action) bytes 25) (r.action, n) (q.action, m) a.action second in
     let action : r.action ≡ q.action = ap (λ (x : Action × ℕ). x.0) both_actions in
     let len : n ≡ m = ap (λ (x : Action × ℕ). x.1) both_actions in
-    let records : made r.tx r.lowest r.named r.action ≡ made q.tx q.lowest q.named q.action =
-    ap (λ (x : ℕ). made x r.lowest r.named r.action) tx ∙ ap (λ (x : ℕ). made q.tx x r.named r.action) lowest ∙ ap (λ (x : ℕ). made q.tx q.lowest x r.action) named ∙ ap (made q.tx q.lowest q.named) action in
+    let records : r ≡ q =
+    ap (λ (x : ℕ). record { tx = x; lowest = r.lowest; named = r.named; action = r.action }) tx
+    ∙ ap (λ (x : ℕ). record { tx = q.tx; lowest = x; named = r.named; action = r.action }) lowest
+    ∙ ap (λ (x : ℕ). record { tx = q.tx; lowest = q.lowest; named = x; action = r.action }) named
+    ∙ ap (λ (x : Action). record { tx = q.tx; lowest = q.lowest; named = q.named; action = x }) action in
     (records, sym (drop_at (spelling r) rest n refl) ∙ ap (λ (k : ℕ). drop k bytes) len ∙ ap (drop m) e ∙ drop_at (spelling q) other m refl)
 
 -- the same of what a call answered
@@ -373,29 +365,26 @@ is_found bytes (Err fault) fits given = tt
 
 two_most : (id key : List ℕ) → (is_id_len (length id) && is_key_len (length key)) ≡ true → length (word_bytes id_width id ++ word_bytes key_width key) ≤ 321
 two_most id key words =
-    let ik = both (is_id_len (length id)) (is_key_len (length key)) words in
-    let i = leb-true (length id) 64 (both (leb 1 (length id)) (leb (length id) 64) ik.0).1 in
-    let k = leb-true (length key) 255 (both (leb 1 (length key)) (leb (length key) 255) ik.1).1 in
+    let ik = and_parts (is_id_len (length id)) (is_key_len (length key)) words in
+    let i = leb-true (length id) 64 (and_parts (leb 1 (length id)) (leb (length id) 64) ik.0).1 in
+    let k = leb-true (length key) 255 (and_parts (leb 1 (length key)) (leb (length key) 255) ik.1).1 in
     omega (arith, i, k, length-append (word_bytes id_width id) (word_bytes key_width key))
 
 three_most : (id key value : List ℕ) → (is_id_len (length id) && is_key_len (length key) && is_value_len (length value)) ≡ true → length (word_bytes id_width id ++ word_bytes key_width key ++ word_bytes value_width value) ≤ 65858
 three_most id key value words =
-    let w = both (is_id_len (length id) && is_key_len (length key)) (is_value_len (length value)) words in
+    let w = and_parts (is_id_len (length id) && is_key_len (length key)) (is_value_len (length value)) words in
     let v = leb-true (length value) 65535 w.1 in
     omega (arith, two_most id key w.0, v, length-append (word_bytes id_width id ++ word_bytes key_width key) (word_bytes value_width value))
 
 payload_most : (action : Action) → has_words action ≡ true → length (payload action) ≤ 65858
 payload_most (actions.Put id key value) words = three_most id key value words
 payload_most (actions.Remove id key) words = omega (arith, two_most id key words)
-payload_most (actions.Delete id) words = omega (arith, leb-true (length id) 64 (both (leb 1 (length id)) (leb (length id) 64) words).1)
+payload_most (actions.Delete id) words = omega (arith, leb-true (length id) 64 (and_parts (leb 1 (length id)) (leb (length id) 64) words).1)
 payload_most actions.Begin words = omega arith
 payload_most actions.Commit words = omega arith
 payload_most (actions.Compaction id key value) words = three_most id key value words
 payload_most actions.Mark words = omega arith
 payload_most actions.Abandon words = omega arith
-
-pub spelling_least : (r : Record) → 25 ≤ length (spelling r)
-spelling_least r = long r
 
 pub spelling_most : (r : Record) → Fits r → length (spelling r) ≤ 65883
 unfolding spelling

@@ -4,6 +4,8 @@ ghost use Rattle.frs_types.specs.declared.record.Record.{Record};
 ghost use Rattle.frs_types.specs.Records.{Fits, well_formed, is_allowed};
 ghost use Rattle.frs_frame.specs.Spelling.{spelling};
 
+use crate::encoding::{RECORD_HEAD, RECORD_LIMIT};
+
 /// No bytes are two records: from the front of bytes at most one record can be read, and what is behind it is then
 /// settled too. So records have different spellings, and no spelling is a proper front of another.
 pub fn one_spelling()
@@ -17,8 +19,8 @@ pub fn allowed_is_well_formed()
     ensures { (n : ℕ) (r : Record) → IsTrue (is_allowed n r) → IsTrue (well_formed r) }
 {}
 
-/// A record has at least the 25 bytes of its head, and at most 65,883.
+/// A record has at least the bytes of its head, and at most `RECORD_LIMIT`.
 pub fn spelling_len()
-    ensures least { (r : Record) → 25 ≤ length (spelling r) }
-    ensures most { (r : Record) → Fits r → length (spelling r) ≤ 65883 }
+    ensures least { (r : Record) → RECORD_HEAD ≤ length (spelling r) }
+    ensures most { (r : Record) → Fits r → length (spelling r) ≤ RECORD_LIMIT }
 {}

@@ -3,15 +3,16 @@ ghost use Rattle.std.specs.Prelude.{◌≡◌, ◌+◌, ◌≤◌, ◌++◌, ℕ
 ghost use Rattle.std.specs.Int.{w64, to_be_bytes};
 ghost use Rattle.frs_types.specs.declared.record.Record.{Record};
 ghost use Rattle.frs_types.specs.declared.record.Action.TheVariants.{Abandon};
-ghost use Rattle.frs_frame.specs.Spelling.{word_bytes, id_width, key_width, value_width, payload, spelling, unnumbered, renumbered};
+ghost use Rattle.frs_frame.specs.Spelling.{word_bytes, id_width, key_width, value_width, payload, spelling, without_numbers, with_numbers};
 
 use crate::kind::Kind;
-use frs_types::{Action, Key, MapId, NoMemory, Value};
+use frs_types::{Action, ID_LIMIT, KEY_LIMIT, Key, MapId, NoMemory, VALUE_LIMIT, Value};
 use std::alloc::Global;
 use std::marker::Model;
 
-// The number of bytes before what the kind brings: the kind, the transaction, the lowest and the named LSN.
-const HEAD: usize = 25;
+/// The bytes of a record before what its kind brings: the kind, the transaction, the lowest and the named LSN. No record
+/// is shorter.
+pub const RECORD_HEAD: usize = 25;
 
 // How many bytes tell the length of an id, of a key and of a value.
 const ID_WIDTH: usize = 1;
@@ -20,12 +21,23 @@ const KEY_WIDTH: usize = 1;
 
 const VALUE_WIDTH: usize = 2;
 
+// The most bytes of what a kind brings: an id, a key and a value, each as long as it may be.
+const PAYLOAD_LIMIT: usize = ID_WIDTH
+    + ID_LIMIT
+    + KEY_WIDTH
+    + KEY_LIMIT
+    + VALUE_WIDTH
+    + VALUE_LIMIT;
+
+/// The most bytes of a record.
+pub const RECORD_LIMIT: usize = RECORD_HEAD + PAYLOAD_LIMIT;
+
 // An abandon record, with its three numbers 0.
-const ABANDON: [u8; HEAD] = [
+const ABANDON: [u8; RECORD_HEAD] = [
     8, 0, 0, 0, 0, 0, 0, 0, 0, 0, 0, 0, 0, 0, 0, 0, 0, 0, 0, 0, 0, 0, 0, 0, 0,
 ];
 
-/// The bytes of one record, 25 to 65,883 of them. Contracts see it as the list of the bytes.
+/// The bytes of one record, from `RECORD_HEAD` to `RECORD_LIMIT` of them. Contracts see it as the list of the bytes.
 #[derive(Debug, Drop)]
 pub struct Framed {
     bytes: Vec<u8>,
@@ -33,48 +45,49 @@ pub struct Framed {
 
 impl Model for Framed {
     ghost use Rattle.std.specs.Prelude.{List, ℕ, ◌≤◌, length};
+    ghost use Rattle.frs_frame.specs.declared.encoding.TheConstants.{RECORD_HEAD, RECORD_LIMIT};
 
     ghost Value = { List ℕ };
 
     ghost view = { λ a. a.bytes.items };
 
-    ghost invariant = { λ a. (25 ≤ length a.bytes.items) × (length a.bytes.items ≤ 65883) };
+    ghost invariant = { λ a. (RECORD_HEAD ≤ length a.bytes.items) × (length a.bytes.items ≤ RECORD_LIMIT) };
 }
 
 impl Framed {
     /// Its bytes.
     pub fn bytes(&self) -> &[u8]
         ensures bytes { result.now ≡ self.now }
-        ensures least { 25 ≤ length self.now }
-        ensures most { length self.now ≤ 65883 }
+        ensures least { RECORD_HEAD ≤ length self.now }
+        ensures most { length self.now ≤ RECORD_LIMIT }
     {
         self.bytes.as_slice()
     }
 
     /// Sets the transaction, the lowest and the named LSN, and nothing else. Takes no memory.
-    #[tactic(auto, unfolding(crate::specs::Spelling::renumbered, crate::specs::Spelling::spelling))]
+    #[tactic(auto, unfolding(crate::specs::Spelling::with_numbers, crate::specs::Spelling::spelling))]
     pub fn patch(&mut self, tx: u64, lowest: u64, named: u64)
-        ensures set { self.new ≡ renumbered tx lowest named self.old }
+        ensures set { self.new ≡ with_numbers tx lowest named self.old }
         ensures spelled { (r : Record) → self.old ≡ spelling r → self.new ≡ spelling (record r { tx = tx; lowest = lowest; named = named }) }
     {
         write_numbers(&mut self.bytes, tx, lowest, named);
     }
 
-    /// Leaves the 25 bytes of an abandon record, with its three numbers 0. Takes no memory.
+    /// Leaves the bytes of an abandon record, with its three numbers 0. Takes no memory.
     #[tactic(auto, unfolding(crate::specs::Spelling::spelling))]
     pub fn make_abandon(&mut self)
-        ensures { self.new ≡ spelling (unnumbered Abandon) }
+        ensures { self.new ≡ spelling (without_numbers Abandon) }
     {
         let bytes = &mut self.bytes;
-        bytes.truncate(HEAD);
+        bytes.truncate(RECORD_HEAD);
         bytes.copy_from_slice(&ABANDON);
     }
 }
 
 // Writes the three numbers of the head.
 fn write_numbers(bytes: &mut [u8], tx: u64, lowest: u64, named: u64)
-    requires { 25 ≤ length bytes.old }
-    ensures { bytes.new ≡ renumbered tx lowest named bytes.old }
+    requires { RECORD_HEAD ≤ length bytes.old }
+    ensures { bytes.new ≡ with_numbers tx lowest named bytes.old }
 {
     write_number(bytes, 1, tx);
     write_number(bytes, 9, lowest);
@@ -92,11 +105,11 @@ fn write_number(bytes: &mut [u8], at: usize, number: u64)
 /// The bytes of a record that says this, with transaction, lowest and named 0: `Framed::patch` sets them.
 #[tactic(auto, unfolding(crate::specs::Spelling::spelling))]
 pub fn encode_payload(alloc: Global, action: &Action) -> Result<Framed, NoMemory>
-    ensures { IfOk result (λ framed. framed ≡ spelling (unnumbered action.now)) }
+    ensures { IfOk result (λ framed. framed ≡ spelling (without_numbers action.now)) }
 {
-    let mut bytes = Vec::with_capacity(alloc, HEAD + payload_len(action))?;
+    let mut bytes = Vec::with_capacity(alloc, RECORD_HEAD + payload_len(action))?;
     bytes.push(Kind::of(action).code())?;
-    bytes.extend_from_slice(&[0; 24])?;
+    bytes.extend_from_slice(&[0; RECORD_HEAD - 1])?;
     add_payload(&mut bytes, action)?;
     Ok(Framed { bytes })
 }
@@ -104,7 +117,7 @@ pub fn encode_payload(alloc: Global, action: &Action) -> Result<Framed, NoMemory
 // The number of bytes behind the head.
 fn payload_len(action: &Action) -> usize
     ensures is { result ≡ length (payload action.now) }
-    ensures most { result ≤ 65858 }
+    ensures most { result ≤ PAYLOAD_LIMIT }
 {
     match action {
         Action::Put { id, key, value } | Action::Compaction { id, key, value } => {

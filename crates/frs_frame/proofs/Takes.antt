@@ -9,7 +9,7 @@ use Rattle.std.proofs.lemmas.Nat.{be_bytes_2, be_bytes_8, from_be_bytes-to_be_by
 use Rattle.frs_frame.specs.declared.fault.FrameFault.{FrameFault}
 use Rattle.frs_frame.specs.declared.fault.FrameFault.TheVariants.{Short, Field}
 use Rattle.frs_frame.specs.Spelling.{word_bytes}
-use Rattle.frs_frame.specs.Decoding.{Read, ◌>>=◌, field, number_at, tested, word_at}
+use Rattle.frs_frame.specs.Decoding.{Reading, ◌>>=◌, field, number_at, if_holds, word_at}
 
 abbrev pub IsBytes : List ℕ → Type 0
 IsBytes bytes = (i : ℕ) → get_or bytes i 0 < 256
@@ -25,11 +25,11 @@ IsBytes-take n bytes h i =
     ]
 
 -- the value of a step that did not fail
-pub bind_ok : {X Y : Type 0} (r : Read X) (f : X × ℕ → Read Y) (y : Y × ℕ) → (r >>= f) ≡ Ok y → (x : X × ℕ) × (r ≡ Ok x) × (f x ≡ Ok y)
+pub bind_ok : {X Y : Type 0} (r : Reading X) (f : X × ℕ → Reading Y) (y : Y × ℕ) → (r >>= f) ≡ Ok y → (x : X × ℕ) × (r ≡ Ok x) × (f x ≡ Ok y)
 bind_ok (Ok x) f y e = (x, refl, e)
 bind_ok (Err fault) f y e = absurd cc
 
-abbrev done : {X : Type 0} → X × ℕ → Read X
+abbrev done : {X : Type 0} → X × ℕ → Reading X
 done x = Ok x
 
 pub ok_is : {X : Type 0} (x y : X × ℕ) → done x ≡ done y → x ≡ y
@@ -43,11 +43,11 @@ guard_holds : {X : Type 0} (b : Bool) (fault : FrameFault) (x y : X × ℕ) → 
 guard_holds true fault x y e = (refl, cc)
 guard_holds false fault x y e = absurd cc
 
-pub tested_ok : {X : Type 0} (test : X → Bool) (at : ℕ) (r : Read X) (y : X × ℕ) → tested test at r ≡ Ok y → (r ≡ Ok y) × (test y.0 ≡ true)
-tested_ok {X} test at (Ok x) y e =
+pub if_holds_ok : {X : Type 0} (test : X → Bool) (at : ℕ) (r : Reading X) (y : X × ℕ) → if_holds test at r ≡ Ok y → (r ≡ Ok y) × (test y.0 ≡ true)
+if_holds_ok {X} test at (Ok x) y e =
     let g = guard_holds (test x.0) (Field at) x y e in
     subst (λ (z : X × ℕ). (done x ≡ done z) × (test z.0 ≡ true)) g.1 (refl, g.0)
-tested_ok test at (Err fault) y e = absurd cc
+if_holds_ok test at (Err fault) y e = absurd cc
 
 -- the text stands at one offset and ends at the other
 pub record Takes (bytes : List ℕ) (at : ℕ) (text : List ℕ) (end : ℕ) : Type 0 where
@@ -156,9 +156,9 @@ number_again w limit wide bytes at n end lt t =
 pub word_takes : (w : Width) (limit : ℕ) (wide : IsWide w limit) (test : ℕ → Bool) (bytes : List ℕ) (at : ℕ) (x : List ℕ × ℕ) → IsBytes bytes → word_at w test bytes at ≡ Ok x → Takes bytes at (word_bytes w x.0) x.1 × (test (length x.0) ≡ true)
 unfolding word_at
 word_takes w limit wide test bytes at x fits e =
-    let b = bind_ok (tested test at (number_at w bytes at)) (λ len. field bytes len.1 (len.1 + len.0)) x e in
+    let b = bind_ok (if_holds test at (number_at w bytes at)) (λ len. field bytes len.1 (len.1 + len.0)) x e in
     let len = b.0 in
-    let g = tested_ok test at (number_at w bytes at) len b.1 in
+    let g = if_holds_ok test at (number_at w bytes at) len b.1 in
     let first = number_takes w limit wide bytes at len fits g.0 in
     let second = field_takes bytes len.1 (len.1 + len.0) x (omega arith) b.2 in
     let len_is : len.0 ≡ length x.0 = omega (arith, second.0.end_is) in

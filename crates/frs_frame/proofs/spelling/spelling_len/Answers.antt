@@ -1,5 +1,5 @@
-use Rattle.frs_frame.proofs.Reading.{spelling_least, spelling_most}
-use Rattle.frs_frame.proofs.law.spelling_len.Goals as goal
+use Rattle.frs_frame.proofs.DecodingOf.{spelling_least, spelling_most}
+use Rattle.frs_frame.proofs.spelling.spelling_len.Goals as goal
 
 pub returns-clause-least : goal.returns-clause-least
 returns-clause-least c = spelling_least

@@ -1,8 +1,8 @@
 use Rattle.std.proofs.Common.{[], ◌∙◌, sym}
 use Rattle.std.proofs.lemmas.List.{append-nil}
 use Rattle.frs_frame.specs.Spelling.{spelling}
-use Rattle.frs_frame.proofs.Reading.{one_record}
-use Rattle.frs_frame.proofs.law.one_spelling.Goals as goal
+use Rattle.frs_frame.proofs.DecodingOf.{one_record}
+use Rattle.frs_frame.proofs.spelling.one_spelling.Goals as goal
 
 pub returns-clause-one_record : goal.returns-clause-one_record
 returns-clause-one_record c = one_record
