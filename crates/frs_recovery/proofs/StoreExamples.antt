@@ -9,7 +9,7 @@ use Rattle.frs_types.specs.Survivors.{survivors, lowest_of}
 use Rattle.frs_frame.specs.Spelling.{spelling}
 use Rattle.frs_segment.specs.Segments.{File, WholeSegment, IsSegment, SpellsBy, segment_spelling}
 use Rattle.frs_recovery.specs.declared.fault.RecoverFault.TheVariants.{Gap}
-use Rattle.frs_recovery.specs.Wrong.{IsWrongFirst}
+use Rattle.frs_recovery.specs.FirstFault.{IsWrongFirst}
 
 abbrev mark : ℕ → Record
 mark lowest = record { tx = 0; lowest = lowest; named = 0; action = Mark }

@@ -6,7 +6,7 @@ use Rattle.frs_disk.specs.Disk.{Rose}
 use Rattle.frs_segment.specs.Segments.{FileList}
 use Rattle.frs_recovery.specs.declared.fault.RecoverFault.{RecoverFault}
 use Rattle.frs_recovery.specs.declared.fault.RecoverFault.TheVariants.{Disk, Memory}
-use Rattle.frs_recovery.specs.Wrong.{IsWrongFirst}
+use Rattle.frs_recovery.specs.FirstFault.{IsWrongFirst}
 
 abbrev pub recover_fault_of : Fault → RecoverFault
 recover_fault_of disk.Failed = Disk

@@ -1,6 +1,6 @@
 pub mod Answers
-pub mod Down
+pub mod Descent
+pub mod DescentEnd
 pub mod Faults
-pub mod Looking
-pub mod Offered
-pub mod Wrong
+pub mod FirstFault
+pub mod OfferedRecords

@@ -2,17 +2,17 @@
 //! oldest, which leave the entries of its maps.
 #![tactic(auto)]
 
-mod backward;
+mod backward_reader;
+mod descent;
 mod fault;
-mod law;
-mod looked;
-mod reading;
 mod recovered;
+mod recovery;
+mod unique_answer;
 
 pub use fault::RecoverFault;
-pub use law::one_answer;
-pub use reading::recover;
-pub use recovered::{Entries, Recovered};
+pub use recovered::Recovered;
+pub use recovery::recover;
+pub use unique_answer::one_answer;
 
 #[cfg(test)]
 mod fault_tests;

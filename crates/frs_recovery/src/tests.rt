@@ -250,7 +250,7 @@ fn read_back(alloc: Global, disk: MemDisk) -> Result<Result<Recovered, RecoverFa
 
 // Asserts that these entries of the map `m` are left, the next LSN, and the two lowest ones.
 fn expect(rt: &impl Abort, answer: &Recovered, want: &Want) {
-    let entries = answer.entries.entries();
+    let entries = answer.entries.items();
     assert_eq!(rt; entries.len(), want.entries.len());
     for (entry, &(key, value, lsn)) in entries.iter().zip(want.entries.iter()) {
         assert_eq!(rt; entry.id.bytes(), b"m".as_slice());
