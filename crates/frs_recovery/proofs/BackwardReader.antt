@@ -16,11 +16,7 @@ use Rattle.frs_filters.specs.Begins.{Begins, HasNoted}
 use Rattle.frs_filters.specs.Chain.{HasSeen}
 use Rattle.frs_recovery.specs.declared.backward_reader.BackwardReader.{BackwardReader}
 use Rattle.frs_recovery.specs.OfferedRecords.{offered_records, lowest_named, HasRead}
-
-pub lowest_at_most : (n : ℕ) (r : Record) → IsTrue (is_allowed n r) → r.lowest ≤ n
-lowest_at_most n r h =
-    let front = and_parts (kind_allows n r.action r.tx r.named && nat_lt r.named n && nat_lt 0 r.lowest && nat_le r.lowest n) (has_words r.action) h in
-    leb-true r.lowest n (and_parts (kind_allows n r.action r.tx r.named && nat_lt r.named n && nat_lt 0 r.lowest) (nat_le r.lowest n) front.0).1
+use Rattle.frs_types.proofs.Allowed.{allowed_at, lowest_at_most}
 
 -- the lowest that the newest record names, once a record was read
 pub still_named : (r : Record) (rs : List Record) → lowest_named (r ∷ rs) ≡ Some (unwrap_or (lowest_named rs) r.lowest)
@@ -102,13 +98,6 @@ pub record IsPart (old now : BackwardReader) (first : ℕ) (all older : List Rec
   pub newer : List Record
   pub parts : all ≡ older ++ newer
   pub read : (rs : List Record) → HasRead old (first + length all) rs → HasRead now (first + length older) (newer ++ rs)
-
-allowed_at : (n : ℕ) (xs : List Record) (r : Record) (ys : List Record) → IsTrue (are_allowed_from n (xs ++ r ∷ ys)) → IsTrue (is_allowed (n + length xs) r)
-allowed_at n [] r ys h =
-    let none : n ≡ n + length {A = Record} [] = omega arith in subst (λ (k : ℕ). IsTrue (is_allowed k r)) none (and_parts (is_allowed n r) (are_allowed_from (n + 1) ys) h).0
-allowed_at n (x ∷ xs) r ys h =
-    let rest = allowed_at (n + 1) xs r ys (and_parts (is_allowed n x) (are_allowed_from (n + 1) (xs ++ r ∷ ys)) h).1 in
-    let same : (n + 1) + length xs ≡ n + length (x ∷ xs) = omega arith in subst (λ (k : ℕ). IsTrue (is_allowed k r)) same rest
 
 pub next_allowed : (old now : BackwardReader) (first k : ℕ) (all before older : List Record) (r : Record) → k ≡ length older → IsPart old now first all before → before ≡ older ++ r ∷ [] → IsTrue (are_allowed_from first all) → IsTrue (is_allowed (first + k) r)
 next_allowed old now first k all before older r many part e h =

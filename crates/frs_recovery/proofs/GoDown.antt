@@ -14,7 +14,8 @@ use Rattle.frs_recovery.specs.Faults.{IsCauseOnDisk, CountsFault, HasRecoverCaus
 use Rattle.frs_recovery.specs.Descent.{HasLookedAt, LooksAt, IsWrongFile}
 use Rattle.frs_recovery.specs.DescentEnd.{LooksDown}
 use Rattle.frs_recovery.specs.FirstFault.{goes_further, gap_below}
-use Rattle.frs_recovery.proofs.RisingFiles.{found_mid, rising}
+use Rattle.frs_segment.proofs.SpellsBy.{rising}
+use Rattle.frs_recovery.proofs.RisingFiles.{found_mid}
 use Rattle.frs_recovery.proofs.GoesDown.{GoesDown, HasStepped, step, goes_on, is_down, is_down_at_end, wrong_file, wrong_at_end}
 
 -- the files of these numbers but for the last k

@@ -14,8 +14,8 @@ use Rattle.frs_segment.specs.declared.fault.ScanFault.TheVariants as scan
 use Rattle.frs_segment.specs.Segments.{File, FileList, WholeSegment, IsSegment, is_open_file, open_files, first_of, all_records, are_enough}
 use Rattle.frs_segment.specs.Stores.{numbers_of}
 use Rattle.frs_segment.specs.Scanning.{header_of, IsRefused}
-use Rattle.frs_segment.proofs.Files.{header_told}
-use Rattle.frs_segment.proofs.Unique.{segment_header}
+use Rattle.frs_segment.proofs.HeaderOf.{header_told}
+use Rattle.frs_segment.proofs.OneSegment.{segment_header}
 use Rattle.frs_recovery.specs.declared.descent.Descent.{Descent}
 use Rattle.frs_recovery.specs.declared.backward_reader.BackwardReader.{BackwardReader}
 use Rattle.frs_recovery.specs.declared.fault.RecoverFault.{RecoverFault}

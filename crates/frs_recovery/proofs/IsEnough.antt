@@ -16,6 +16,7 @@ use Rattle.frs_recovery.specs.declared.descent.Descent.{Descent}
 use Rattle.frs_recovery.specs.Descent.{IsMeant, HasLookedAt}
 use Rattle.frs_recovery.specs.OfferedRecords.{lowest_named}
 use Rattle.frs_recovery.specs.FirstFault.{goes_further}
+use Rattle.frs_recovery.proofs.Lists.{all_join}
 
 -- ---- the oldest segment
 
@@ -70,10 +71,6 @@ not_enough l none segments looked = ap not (sym (further_unnamed segments (all_r
 abbrev Names : Record → Type 0
 Names r = 1 ≤ r.lowest
 
-both_name : (xs ys : List Record) → AllByRecursion Names xs → AllByRecursion Names ys → AllByRecursion Names (xs ++ ys)
-both_name [] ys left right = right
-both_name (x ∷ xs) ys left right = (left.0, both_name xs ys left.1 right)
-
 allowed_name : (n : ℕ) (rs : List Record) → IsTrue (are_allowed_from n rs) → AllByRecursion Names rs
 allowed_name n [] h = tt
 allowed_name n (r ∷ rs) h =
@@ -88,11 +85,11 @@ chunks_name n [] h = tt
 chunks_name n (c ∷ chunks) h =
     let p = and_parts (is_chunk n c) (are_chunks (n + length c) chunks) h in
     let all = (and_parts (leb 1 (length c) && leb (length c) 256 && leb (length (body c)) (2 ^ 20)) (are_allowed_from n c) p.0).1 in
-    both_name c (flat_map (λ (d : List Record). d) chunks) (allowed_name n c all) (chunks_name (n + length c) chunks p.1)
+    all_join Names c (flat_map (λ (d : List Record). d) chunks) (allowed_name n c all) (chunks_name (n + length c) chunks p.1)
 
 segments_name : (segments : List WholeSegment) → AllByRecursion IsMeant segments → AllByRecursion Names (all_records segments)
 segments_name [] each = tt
-segments_name (s ∷ segments) each = both_name (records_of s) (all_records segments) (chunks_name s.first s.chunks each.0.1.chunks) (segments_name segments each.1)
+segments_name (s ∷ segments) each = all_join Names (records_of s) (all_records segments) (chunks_name s.first s.chunks each.0.1.chunks) (segments_name segments each.1)
 
 named_some : (o : Option Record) (rs : List Record) → 1 ≤ unwrap_or (option_map (λ (r : Record). r.lowest) o) 1 → AllByRecursion Names rs → 1 ≤ unwrap_or (option_map (λ (r : Record). r.lowest) (last_or o rs)) 1
 named_some o [] h all = h

@@ -18,8 +18,9 @@ use Rattle.frs_segment.specs.Scanning.{places_of_segment}
 use Rattle.frs_recovery.specs.Descent.{IsMeant}
 use Rattle.frs_recovery.specs.OfferedRecords.{offered_records}
 use Rattle.frs_recovery.specs.DescentEnd.{IsDownTo, end_of_newest, least_number}
-use Rattle.frs_recovery.proofs.RisingFiles.{from_truth, lesser_before, greater_behind}
-use Rattle.frs_recovery.proofs.Lists.{with_last, last_is}
+use Rattle.frs_types.proofs.Truth.{from_is_true}
+use Rattle.frs_recovery.proofs.RisingFiles.{lesser_before, greater_behind}
+use Rattle.frs_recovery.proofs.Lists.{all_join, with_last, last_is}
 use Rattle.frs_recovery.proofs.Reaches.{named_below, enough_with, meant_first}
 use Rattle.frs_recovery.proofs.GoesDown.{half_files, segment_open}
 
@@ -139,10 +140,6 @@ each_from : {A : Type 0} (t : A → Bool) (P : A → Type 0) (xs : List A) → (
 each_from t P [] h all = tt
 each_from t P (x ∷ xs) h all = let both = and_parts (t x) (list_all t xs) all in (h x both.0, each_from t P xs h both.1)
 
-each_join : {A : Type 0} (P : A → Type 0) (xs ys : List A) → AllByRecursion P xs → AllByRecursion P ys → AllByRecursion P (xs ++ ys)
-each_join P [] ys a b = b
-each_join P (x ∷ xs) ys a b = (a.0, each_join P xs ys a.1 b)
-
 each_apart : {A : Type 0} (P : A → Type 0) (xs ys : List A) → AllByRecursion P (xs ++ ys) → AllByRecursion P xs × AllByRecursion P ys
 each_apart P [] ys all = (tt, all)
 each_apart P (x ∷ xs) ys all = let rest = each_apart P xs ys all.1 in ((all.0, rest.0), rest.1)
@@ -199,12 +196,12 @@ noted : (image older files : FileList) (file : File) (rest : FileList) → older
 noted image older files file rest are rising opens is =
     let p = part files file rest opens in
     let whole : image ≡ (older ++ p.front) ++ file ∷ p.back = sym are ∙ ap (λ (x : FileList). older ++ x) p.is ∙ sym (append_assoc older p.front (file ∷ p.back)) in
-    let sorted = from_truth (is_sorted nat_cmp ((older ++ p.front) ++ file ∷ p.back)) (subst (λ (x : FileList). IsTrue (is_sorted nat_cmp x)) whole rising) in
+    let sorted = from_is_true (is_sorted nat_cmp ((older ++ p.front) ++ file ∷ p.back)) (subst (λ (x : FileList). IsTrue (is_sorted nat_cmp x)) whole rising) in
     let low = lesser_before (older ++ p.front) file p.back sorted in
     let none = each_apart (λ (f : File). is_not_below file.0 f ≡ false) older p.front (each_from (λ (f : File). ltb f.0 file.0) (λ (f : File). is_not_below file.0 f ≡ false) (older ++ p.front) (low_none file.0) low) in
     let front = each_apart (λ (f : File). is_above file.0 f ≡ is_not_below file.0 f) older p.front (each_from (λ (f : File). ltb f.0 file.0) (λ (f : File). is_above file.0 f ≡ is_not_below file.0 f) (older ++ p.front) (low_agrees file.0) low) in
     let back = each_from (λ (f : File). ltb file.0 f.0) (λ (f : File). is_above file.0 f ≡ is_not_below file.0 f) p.back (high_agrees file.0) (greater_behind (older ++ p.front) file p.back sorted) in
-    let all = subst (λ (x : FileList). AllByRecursion (λ (f : File). is_above file.0 f ≡ is_not_below file.0 f) x) (sym p.is) (each_join (λ (f : File). is_above file.0 f ≡ is_not_below file.0 f) p.front (file ∷ p.back) front.1 (open_agrees file.0 file is, back)) in
+    let all = subst (λ (x : FileList). AllByRecursion (λ (f : File). is_above file.0 f ≡ is_not_below file.0 f) x) (sym p.is) (all_join (λ (f : File). is_above file.0 f ≡ is_not_below file.0 f) p.front (file ∷ p.back) front.1 (open_agrees file.0 file is, back)) in
     agree_each (is_above file.0) (is_not_below file.0) files all
     ∙ sym (ap (λ (x : FileList). filter (is_not_below file.0) x) (sym are) ∙ filter-append (is_not_below file.0) older files ∙ ap (λ (x : FileList). x ++ filter (is_not_below file.0) files) (none_each (is_not_below file.0) older none.0))
 

@@ -15,21 +15,14 @@ use Rattle.frs_segment.specs.Scanning.{IsRefused}
 use Rattle.frs_recovery.specs.declared.fault.RecoverFault.{RecoverFault}
 use Rattle.frs_recovery.specs.FirstFault.{goes_further, HoldsDownTo, refusal_of, ends_below, gap_below, IsWrongBelow, IsWrongFirst}
 use Rattle.frs_recovery.proofs.Lists.{ends, with_last, same_last, never_empty, apart}
+use Rattle.frs_types.proofs.Allowed.{lowest_behind_one}
 
 -- ---- records
-
--- the newest record is that of the last records
-last_behind : (o : Option Record) (front : List Record) (r : Record) (rs : List Record) → last_or o (front ++ r ∷ rs) ≡ last_or None (r ∷ rs)
-last_behind o [] r rs = refl
-last_behind o (q ∷ front) r rs = last_behind (Some q) front r rs
-
-pub lowest_behind : (front : List Record) (r : Record) (rs : List Record) → named_lowest (front ++ r ∷ rs) ≡ named_lowest (r ∷ rs)
-lowest_behind front r rs = ap (λ (o : Option Record). unwrap_or (option_map (λ (q : Record). q.lowest) o) 1) (last_behind None front r rs)
 
 -- where there is a record, a log that goes further is below all of the segments
 below_all : (segments : List WholeSegment) (front : List Record) (r : Record) (rs : List Record) → IsTrue (goes_further segments (front ++ r ∷ rs)) → IsTrue (list_all (λ (s : WholeSegment). ltb (named_lowest (r ∷ rs)) s.first) segments)
 below_all segments [] r rs further = further
-below_all segments (q ∷ front) r rs further = subst (λ (n : ℕ). IsTrue (list_all (λ (s : WholeSegment). ltb n s.first) segments)) (lowest_behind (q ∷ front) r rs) further
+below_all segments (q ∷ front) r rs further = subst (λ (n : ℕ). IsTrue (list_all (λ (s : WholeSegment). ltb n s.first) segments)) (lowest_behind_one (q ∷ front) r rs) further
 
 -- a log that begins in one of the segments goes no further
 reached : (lowest : ℕ) (front segments : List WholeSegment) → IsTrue (first_alone_reaches lowest segments) → IsTrue (list_all (λ (s : WholeSegment). ltb lowest s.first) (front ++ segments)) → ⊥

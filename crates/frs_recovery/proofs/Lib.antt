@@ -4,7 +4,7 @@ mod GoesDown
 mod IsEnough
 mod IsFound
 mod IsWrongFirst
-mod Lists
+pub mod Lists
 mod LookAt
 mod OneOfTwo
 mod Reaches

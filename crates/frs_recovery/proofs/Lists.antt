@@ -1,6 +1,11 @@
 -- Lists that end alike, and pairs of lists.
 use Rattle.std.proofs.Common.{◌≡◌, ◌⊎◌, inl, inr, suc, ◌-◌, List, [], ◌∷◌, ◌++◌, Option, Some, None, length, refl, sym, ap, ◌∙◌, arith}
-use Rattle.std.specs.List.{AllZip, last_or, slice_get}
+use Rattle.std.specs.List.{AllByRecursion, AllZip, last_or, slice_get}
+
+-- what holds of each element of two lists holds of each element of both
+pub all_join : {A : Type 0} (P : A → Type 0) (xs ys : List A) → AllByRecursion P xs → AllByRecursion P ys → AllByRecursion P (xs ++ ys)
+all_join P [] ys left right = right
+all_join P (x ∷ xs) ys left right = (left.0, all_join P xs ys left.1 right)
 
 -- of two ends of one list, one is an end of the other
 pub ends : {A : Type 0} (a x b y : List A) → a ++ x ≡ b ++ y → ((m : List A) × (a ≡ b ++ m) × (y ≡ m ++ x)) ⊎ ((m : List A) × (b ≡ a ++ m) × (x ≡ m ++ y))

@@ -7,29 +7,15 @@ use Rattle.std.proofs.lemmas.Bool.{ltb-false, lt-ltb, leb-true, le-leb, eqb-true
 use Rattle.frs_types.specs.declared.record.Record.{Record}
 use Rattle.frs_types.specs.Records.{is_allowed, are_allowed_from, named_lowest}
 use Rattle.frs_segment.specs.Segments.{FileList, WholeSegment, records_of, all_records, end_of, are_chunks, is_chunk, follow_from, first_alone_reaches, are_enough}
-use Rattle.frs_segment.proofs.Chunks.{chunk_passes}
 use Rattle.frs_recovery.specs.Descent.{IsMeant}
 use Rattle.frs_recovery.specs.FirstFault.{goes_further}
-use Rattle.frs_recovery.proofs.BackwardReader.{lowest_at_most}
-use Rattle.frs_recovery.proofs.IsWrongFirst.{lowest_behind}
+use Rattle.frs_types.proofs.Allowed.{allowed_joined, lowest_at_most, lowest_behind_one}
+use Rattle.frs_segment.proofs.SpellsBy.{segment_allowed}
 
 -- ---- each record may stand where it does
 
-pub allowed_joined : (n : ℕ) (rs qs : List Record) → IsTrue (are_allowed_from n rs) → IsTrue (are_allowed_from (n + length rs) qs) → IsTrue (are_allowed_from n (rs ++ qs))
-allowed_joined n [] qs h k = let e : n + length {A = Record} [] ≡ n = omega arith in subst (λ (m : ℕ). IsTrue (are_allowed_from m qs)) e k
-allowed_joined n (r ∷ rs) qs h k =
-    let both = and_parts (is_allowed n r) (are_allowed_from (n + 1) rs) h in
-    let e : n + length (r ∷ rs) ≡ (n + 1) + length rs = omega arith in
-    and_from (is_allowed n r) (are_allowed_from (n + 1) (rs ++ qs)) both.0 (allowed_joined (n + 1) rs qs both.1 (subst (λ (m : ℕ). IsTrue (are_allowed_from m qs)) e k))
-
-chunks_allowed : (n : ℕ) (chunks : List (List Record)) → IsTrue (are_chunks n chunks) → IsTrue (are_allowed_from n (records_of (record { number = 0; first = n; chunks = chunks })))
-chunks_allowed n [] h = refl
-chunks_allowed n (rs ∷ chunks) h =
-    let both = and_parts (is_chunk n rs) (are_chunks (n + length rs) chunks) h in
-    allowed_joined n rs (records_of (record { number = 0; first = n; chunks = chunks })) (chunk_passes n rs both.0).all (chunks_allowed (n + length rs) chunks both.1)
-
 pub meant_allowed : (s : WholeSegment) → IsMeant s → IsTrue (are_allowed_from s.first (records_of s))
-meant_allowed s (file, is) = chunks_allowed s.first s.chunks is.chunks
+meant_allowed s (file, is) = segment_allowed file s is
 
 pub all_allowed : (n : ℕ) (segments : List WholeSegment) → AllByRecursion IsMeant segments → IsTrue (follow_from n segments) → IsTrue (are_allowed_from n (all_records segments))
 all_allowed n [] each follow = refl
@@ -85,7 +71,7 @@ reaches s segments follow may further stops older = at (records_of s) (all_recor
     at [] [] is further stops may = absurd (both_ways true stops refl)
     at [] (r ∷ rs) is further stops may = enough_with older (s ∷ segments) r rs (first_reaches (named_lowest (r ∷ rs)) s segments further stops)
     at (q ∷ qs) (r ∷ rs) is further stops may =
-        let same : named_lowest (r ∷ rs) ≡ named_lowest ((q ∷ qs) ++ r ∷ rs) = sym (lowest_behind (q ∷ qs) r rs) in
+        let same : named_lowest (r ∷ rs) ≡ named_lowest ((q ∷ qs) ++ r ∷ rs) = sym (lowest_behind_one (q ∷ qs) r rs) in
         let above = subst (λ (n : ℕ). IsTrue (list_all (λ (t : WholeSegment). ltb n t.first) segments)) same further in
         enough_with older (s ∷ segments) q (qs ++ r ∷ rs) (first_reaches (named_lowest ((q ∷ qs) ++ r ∷ rs)) s segments above stops)
     at (q ∷ qs) [] is further stops may =

@@ -18,6 +18,7 @@ use Rattle.frs_recovery.specs.declared.fault.RecoverFault.TheVariants.{BadHeader
 use Rattle.frs_recovery.specs.Faults.{GivesRecovered}
 use Rattle.frs_recovery.specs.Descent.{IsMeant, IsOutsideFault, ReadsSegment}
 use Rattle.frs_recovery.specs.OfferedRecords.{HasRead}
+use Rattle.frs_segment.proofs.OneSegment.{behind_chunks}
 
 abbrev flat : List (List Record) → List Record
 flat chunks = flat_map (λ (c : List Record). c) chunks
@@ -91,14 +92,9 @@ one_more tells bytes next all left older place rs old now new back e chained at 
 
 -- ---- the chunks that stand in a file
 
--- what stands behind a chunk begins with a gate
-behind : (n : ℕ) (chunks : List (List Record)) (gate : ℕ) (rest : List ℕ) → (g : ℕ) × (r : List ℕ) × (chunks_bytes n chunks ++ gate ∷ rest ≡ g ∷ r)
-behind n [] gate rest = (gate, rest, refl)
-behind n (c ∷ chunks) gate rest = (1, drop 1 (chunks_bytes n (c ∷ chunks) ++ gate ∷ rest), refl)
-
 first_stands : (offset first : ℕ) (c : List Record) (chunks : List (List Record)) (text : List ℕ) (gate : ℕ) (rest : List ℕ) → text ≡ chunks_bytes first (c ∷ chunks) ++ gate ∷ rest → IsTrue (is_chunk first c) → first + length c ≤ 2 ^ 62 → IsChunk (chunk_place offset first c) text c
 first_stands offset first c chunks text gate rest e is within =
-    let b = behind (first + length c) chunks gate rest in
+    let b = behind_chunks (first + length c) chunks gate rest in
     record {
       gate = b.0;
       rest = b.1;

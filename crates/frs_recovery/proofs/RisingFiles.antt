@@ -9,58 +9,31 @@ use Rattle.std.specs.FinMap.{entries, entries_sorted}
 use Rattle.std.specs.FinMap.Entries.{find, below_all, is_sorted}
 use Rattle.frs_disk.specs.Disk.{Image}
 use Rattle.frs_segment.specs.Segments.{File}
-
-first : (a b : Bool) → T (a && b) → T a
-first true b is = tt
-first false b is = is
-
-second : (a b : Bool) → T (a && b) → T b
-second true b is = is
-second false b is = absurd is
-
-truth : (b : Bool) → T b → IsTrue b
-truth true is = refl
-truth false is = absurd is
-
-pub from_truth : (b : Bool) → IsTrue b → T b
-from_truth true is = tt
-from_truth false is = absurd cc
-
--- the files of a disk stand by rising number
-pub rising : (d : Image) → IsTrue (is_sorted nat_cmp (entries d))
-rising d = truth (is_sorted nat_cmp (entries d)) (entries_sorted d)
-
-below : (x y : ℕ) → T (is_lt (nat_cmp x y)) → x < y
-below x y is = at (nat_cmp x y) (ranks x y) is
-  where
-    at : (o : Ordering) → MatchOrdering o (x < y) (x ≡ y) (y < x) → T (is_lt o) → x < y
-    at Less p is = p
-    at Equal p is = absurd is
-    at Greater p is = absurd is
+use Rattle.frs_types.proofs.Truth.{and_first, and_second, less_by_cmp}
 
 -- the number n is below that of a file among these
 below_mid : (x : ℕ) (front : List File) (file : File) (back : List File) → T (below_all nat_cmp x (front ++ file ∷ back)) → x < file.0
-below_mid x [] file back is = below x file.0 (first _ _ is)
-below_mid x (f ∷ front) file back is = below_mid x front file back (second _ _ is)
+below_mid x [] file back is = less_by_cmp x file.0 (and_first _ _ is)
+below_mid x (f ∷ front) file back is = below_mid x front file back (and_second _ _ is)
 
 above_all : (x : ℕ) (files : List File) → T (below_all nat_cmp x files) → IsTrue (list_all (λ (f : File). ltb x f.0) files)
 above_all x [] is = refl
-above_all x (f ∷ files) is = and_from (ltb x f.0) (list_all (λ (g : File). ltb x g.0) files) (lt-ltb x f.0 (below x f.0 (first _ _ is))) (above_all x files (second _ _ is))
+above_all x (f ∷ files) is = and_from (ltb x f.0) (list_all (λ (g : File). ltb x g.0) files) (lt-ltb x f.0 (less_by_cmp x f.0 (and_first _ _ is))) (above_all x files (and_second _ _ is))
 
 -- before a file there are only lesser numbers, and behind it only greater ones
 pub lesser_before : (front : List File) (file : File) (back : List File) → T (is_sorted nat_cmp (front ++ file ∷ back)) → IsTrue (list_all (λ (f : File). ltb f.0 file.0) front)
 lesser_before [] file back is = refl
 lesser_before (f ∷ front) file back is =
-    and_from (ltb f.0 file.0) (list_all (λ (g : File). ltb g.0 file.0) front) (lt-ltb f.0 file.0 (below_mid f.0 front file back (first _ _ is))) (lesser_before front file back (second _ _ is))
+    and_from (ltb f.0 file.0) (list_all (λ (g : File). ltb g.0 file.0) front) (lt-ltb f.0 file.0 (below_mid f.0 front file back (and_first _ _ is))) (lesser_before front file back (and_second _ _ is))
 
 pub greater_behind : (front : List File) (file : File) (back : List File) → T (is_sorted nat_cmp (front ++ file ∷ back)) → IsTrue (list_all (λ (f : File). ltb file.0 f.0) back)
-greater_behind [] file back is = above_all file.0 back (first _ _ is)
-greater_behind (f ∷ front) file back is = greater_behind front file back (second _ _ is)
+greater_behind [] file back is = above_all file.0 back (and_first _ _ is)
+greater_behind (f ∷ front) file back is = greater_behind front file back (and_second _ _ is)
 
 -- a file is found by its number
 pub found_mid : (front : List File) (file : File) (back : List File) → T (is_sorted nat_cmp (front ++ file ∷ back)) → find nat_cmp file.0 (front ++ file ∷ back) ≡ Some file.1
 found_mid [] file back is = ap (λ (t : Bool). cond t (Some file.1) (find nat_cmp file.0 back)) (unsigned_tied file.0 file.0 ∙ eq-eqb file.0 file.0 refl)
 found_mid (f ∷ front) file back is =
-    let lt : f.0 < file.0 = below_mid f.0 front file back (first _ _ is) in
+    let lt : f.0 < file.0 = below_mid f.0 front file back (and_first _ _ is) in
     let other : file.0 ≢ f.0 = λ e. omega (arith, lt, e) in
-    ap (λ (t : Bool). cond t (Some f.1) (find nat_cmp file.0 (front ++ file ∷ back))) (unsigned_tied file.0 f.0 ∙ ne_eqb file.0 f.0 other) ∙ found_mid front file back (second _ _ is)
+    ap (λ (t : Bool). cond t (Some f.1) (find nat_cmp file.0 (front ++ file ∷ back))) (unsigned_tied file.0 f.0 ∙ ne_eqb file.0 f.0 other) ∙ found_mid front file back (and_second _ _ is)

@@ -2,6 +2,7 @@
 use Rattle.std.specs.Prelude.{◌≡◌, ℕ, ◌^◌, ◌<◌, ◌≤◌, List, map, All}
 use Rattle.std.specs.List.{IsDistinct}
 use Rattle.std.specs.List.Sorted.{IsStrictlyIncreasing}
+use Rattle.frs_types.specs.declared.limits.TheConstants.{NUMBER_LIMIT}
 use Rattle.frs_types.specs.declared.record.Entry.{Entry}
 use Rattle.frs_types.specs.Maps.{Place, same_place}
 use Rattle.frs_types.specs.Records.{Log}
@@ -29,5 +30,5 @@ pub record IsInRange (r : Recovered) : Type 0 where
   pub lsns : All (λ n. (0 < n) × (n < r.found.next)) (lsns_of r.entries)
   pub lowest : r.lowest ≤ r.found.next
   pub named : r.found.named ≤ r.found.next
-  pub next : (1 ≤ r.found.next) × (r.found.next ≤ 2 ^ 62)
-  pub greatest : r.found.greatest < 2 ^ 62
+  pub next : (1 ≤ r.found.next) × (r.found.next ≤ NUMBER_LIMIT)
+  pub greatest : r.found.greatest < NUMBER_LIMIT

@@ -74,7 +74,7 @@ impl BackwardReader {
             → result.0.items ≡ survivors_of (committed_records (offered_records first rs)) }
         ensures lowest { (first : ℕ) (rs : List Record) → HasRead self first rs
             → result.1 ≡ least next (lsns_of (survivors_of (committed_records (offered_records first rs)))
-                ++ open_begins (offered_records first rs)) }
+            ++ open_begins (offered_records first rs)) }
     {
         let BackwardReader { chain, begins, .. } = self;
         let entries = chain.entries();

@@ -63,7 +63,7 @@ impl Descent {
         ensures gap { (segments : List WholeSegment) → HasLookedAt self.now segments
             → IsTrue (goes_further segments (all_records segments))
             → IfErr result (λ fault. IsTrue (not (are_enough [] segments (all_records segments)))
-                × (fault ≡ gap_below segments 0)) }
+            × (fault ≡ gap_below segments 0)) }
     {
         match self.segments.last() {
             Some(oldest) if oldest.first > FIRST_LSN => Err(RecoverFault::Gap {
@@ -79,7 +79,7 @@ impl Descent {
         ensures told { (segments : List WholeSegment) (s : WholeSegment) → HasLookedAt self.now segments
             → IsMeant s → segment.now ≡ places_of_segment s
             → result ≡ (if ends_below s segments then Ok tt
-                else Err (gap_below segments (end_of s - 1))) }
+            else Err (gap_below segments (end_of s - 1))) }
         ensures of_files { IfErr result IsOfFiles }
     {
         match self.segments.last() {
@@ -115,7 +115,7 @@ pub(crate) fn look_at<D: Disk>(
     requires there { IsThere D.Disk disk.old number }
     ensures looks { (segments : List WholeSegment) → HasLookedAt descent.old segments
         → OnOk result (LooksAt (D.tells disk.old) (file_at (D.reads disk.old) number)
-            segments descent.old descent.new) }
+        segments descent.old descent.new) }
     ensures why { (segments : List WholeSegment) → HasLookedAt descent.old segments
         → IsTrue (D.tells disk.old)
         → IfErr result (IsWrongFile (file_at (D.reads disk.old) number) segments) }
@@ -176,7 +176,7 @@ fn read_segment<D: Disk>(
     ensures read { (s : WholeSegment) (rs : List Record) → IsMeant s
         → segment.now ≡ places_of_segment s
         → (IsTrue (D.tells disk.old)
-            → IsSegment (file_at (D.reads disk.old) segment.now.number) s)
+        → IsSegment (file_at (D.reads disk.old) segment.now.number) s)
         → HasRead records.old (end_of s) rs
         → OnOk result (ReadsSegment (D.tells disk.old) s rs records.new) }
     ensures only { IsTrue (D.tells disk.old) → (s : WholeSegment)
@@ -185,7 +185,7 @@ fn read_segment<D: Disk>(
     ensures frame { OnlyReads D.Disk disk.old disk.new }
     ensures cause { HasRecoverCause (D.faults disk.old) (D.faults disk.new) result }
 {
-    let mut left = segment.chunks.places();
+    let mut left = segment.chunks.items();
     while let [older @ .., place] = left {
         let chunk = chunk_of(alloc, disk, segment.number, place)?;
         records.read_all(place.first, chunk)?;

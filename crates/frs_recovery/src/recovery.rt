@@ -15,13 +15,13 @@ ghost use Rattle.frs_recovery.specs.Faults.{HasRecoverCause, IsCauseOnDisk, Give
 ghost use Rattle.frs_recovery.specs.DescentEnd.{LooksDown, end_of_newest, least_number};
 ghost use Rattle.frs_recovery.specs.FirstFault.{IsWrongFirst};
 
-use crate::fault::RecoverFault;
-use crate::unique_answer::one_answer;
 use crate::descent::{Descent, look_at};
+use crate::fault::RecoverFault;
 use crate::recovered::Recovered;
+use crate::unique_answer::one_answer;
 use frs_disk::Disk;
 use frs_filters::survivors_in_order;
-use frs_segment::{Found, Numbers, Segment, Segments, one_log};
+use frs_segment::{Found, Segment, one_log};
 use frs_types::Sequence;
 use std::alloc::Global;
 
@@ -110,7 +110,13 @@ fn recovered_store(descent: Descent, numbers: Vec<u64>) -> Recovered
 }
 
 // What was found, where the segments and the half-made files stand as they were looked at.
-fn found_files(segments: Vec<Segment>, half: Vec<u64>, numbers: Vec<u64>, next: u64, named: u64) -> Found
+fn found_files(
+    segments: Vec<Segment>,
+    half: Vec<u64>,
+    numbers: Vec<u64>,
+    next: u64,
+    named: u64,
+) -> Found
     ensures segments { result.segments ≡ reverse segments.items }
     ensures half { result.half
         ≡ filter (nat_lt (least_number segments.items)) (reverse half.items) }
@@ -123,9 +129,9 @@ fn found_files(segments: Vec<Segment>, half: Vec<u64>, numbers: Vec<u64>, next: 
     let least = least_of(segments.as_slice());
     let greatest = greatest_of(numbers.as_slice());
     Found {
-        segments: Segments::of(rising_segments(segments)),
-        half: Numbers::of(numbers_above(least, half)),
-        older: Numbers::of(numbers_below(least, numbers)),
+        segments: Sequence::of(rising_segments(segments)),
+        half: Sequence::of(numbers_above(least, half)),
+        older: Sequence::of(numbers_below(least, numbers)),
         greatest,
         next,
         named,

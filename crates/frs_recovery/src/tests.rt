@@ -273,13 +273,13 @@ fn expect_files(
     older: &[u64],
     greatest: u64,
 ) {
-    let found = answer.found.segments.segments();
+    let found = answer.found.segments.items();
     assert_eq!(rt; found.len(), segments.len());
     for (segment, &number) in found.iter().zip(segments.iter()) {
         assert_eq!(rt; segment.number, number);
     }
-    assert_eq!(rt; answer.found.half.numbers(), half);
-    assert_eq!(rt; answer.found.older.numbers(), older);
+    assert_eq!(rt; answer.found.half.items(), half);
+    assert_eq!(rt; answer.found.older.items(), older);
     assert_eq!(rt; answer.found.greatest, greatest);
 }
 
@@ -436,8 +436,8 @@ const CRASHES: [Crash; 3] = [
 
 // Asserts how many chunks each segment that was found has.
 fn expect_chunks(rt: &impl Abort, answer: &Recovered, chunks: usize) {
-    for segment in answer.found.segments.segments() {
-        assert_eq!(rt; segment.chunks.places().len(), chunks);
+    for segment in answer.found.segments.items() {
+        assert_eq!(rt; segment.chunks.items().len(), chunks);
     }
 }
 

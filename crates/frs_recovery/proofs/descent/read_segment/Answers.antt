@@ -18,7 +18,7 @@ loop-left-init g c =
     let bytes = bytes_at (d.reads c.args.disk.now) c.args.segment.now.number in
     let found = c.args.segment.now in
     record {
-      back = subst (λ (left : List ChunkPlace). IsReadBack (d.tells c.args.disk.now) bytes found.«end» found.chunks left c.args.records.now c.args.records.now) (sym c.places-left.ensures) (none_read (d.tells c.args.disk.now) bytes found.«end» found.chunks c.args.records.now);
+      back = subst (λ (left : List ChunkPlace). IsReadBack (d.tells c.args.disk.now) bytes found.«end» found.chunks left c.args.records.now c.args.records.now) (sym c.items-left.ensures) (none_read (d.tells c.args.disk.now) bytes found.«end» found.chunks c.args.records.now);
       frame = only_reads_none d g.met.D.Disk.only_now c.args.disk.now;
       faults = refl;
     }

@@ -1,7 +1,8 @@
 use Rattle.std.proofs.Common.{subst}
 use Rattle.frs_disk.specs.Disk.{bytes_at}
 use Rattle.frs_segment.specs.Scanning.{IsCauseInFile}
-use Rattle.frs_recovery.proofs.SegmentOf.{half_is_shut, told_or_meant}
+use Rattle.frs_segment.proofs.IsRefused.{half_is_shut}
+use Rattle.frs_recovery.proofs.SegmentOf.{told_or_meant}
 use Rattle.frs_recovery.proofs.descent.segment_of.Goals as goal
 
 pub returns-in-Ok-clause-found : goal.returns-in-Ok-clause-found

@@ -10,7 +10,7 @@ use Rattle.frs_recovery.specs.declared.fault.RecoverFault.{RecoverFault}
 use Rattle.frs_recovery.specs.declared.recovered.Recovered.{Recovered}
 use Rattle.frs_recovery.specs.Answers.{IsRecovered, IsInRange}
 use Rattle.frs_recovery.specs.Faults.{recover_fault_of, IsCauseOnDisk}
-use Rattle.frs_recovery.proofs.RisingFiles.{rising}
+use Rattle.frs_segment.proofs.SpellsBy.{rising}
 use Rattle.frs_recovery.proofs.SegmentOf.{err_is}
 use Rattle.frs_recovery.proofs.GoDown.{none_down, still_cause}
 use Rattle.frs_recovery.proofs.RecoverAnswers.{only_one, never_wrong, only_outside, told_wrong, outside_gives, outside_refuses, outside_cause, outside_counts}
