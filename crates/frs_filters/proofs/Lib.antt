@@ -1,7 +1,6 @@
-mod BeginSteps
-mod ChainStep
+mod HasNoted
+mod HasSeen
+mod IsNoted
 pub mod LogExamples
-mod LogSteps
-mod Notes
-mod Offers
-mod Rising
+mod NotesAfter
+mod RiseIn

@@ -2,15 +2,13 @@
 use Rattle.std.proofs.Common.{◌≡◌, ℕ, ◌+◌, zero, suc, List, [], ◌∷◌, ◌++◌, refl}
 use Rattle.std.specs.Prelude.{codes, decimal}
 use Rattle.std.specs.Fmt.{digits}
+use Rattle.frs_types.proofs.LogExamples.{rec}
 use Rattle.frs_types.specs.declared.record.Action.{Action}
 use Rattle.frs_types.specs.declared.record.Action.TheVariants.{Put, Remove, Delete, Begin, Commit, Compaction, Mark, Abandon}
 use Rattle.frs_types.specs.declared.record.Record.{Record}
 use Rattle.frs_types.specs.declared.record.Entry.{Entry}
 use Rattle.frs_types.specs.Records.{Log, from_lowest}
 use Rattle.frs_types.specs.Survivors.{survivors, lowest_of}
-
-abbrev rec : ℕ → ℕ → ℕ → Action → Record
-rec tx lowest named action = record { tx = tx; lowest = lowest; named = named; action = action }
 
 abbrev entry : List ℕ → List ℕ → ℕ → Entry
 entry key value lsn = record { id = codes "m"; key = key; value = value; lsn = lsn }

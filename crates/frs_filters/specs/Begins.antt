@@ -7,7 +7,7 @@ use Rattle.frs_types.specs.declared.record.Action.{Action}
 use Rattle.frs_types.specs.declared.record.Action.TheVariants.{Begin, Commit, Mark, Abandon}
 use Rattle.frs_types.specs.Records.{Numbered}
 use Rattle.frs_types.specs.Survivors.{is_ended_by, open_begins, least}
-use Rattle.frs_filters.specs.Filters.{has}
+use Rattle.frs_filters.specs.Filters.{is_noted}
 
 -- the transactions that were ended, whether a mark ended all older ones, and the least begin that stays open
 pub record Begins : Type 0 where
@@ -17,16 +17,16 @@ pub record Begins : Type 0 where
 
 -- a record that was offered ends the transaction
 abbrev pub is_ended : Begins → ℕ → Bool
-is_ended b tx = b.marked || has nat_cmp b.ended tx
+is_ended b tx = b.marked || is_noted nat_cmp b.ended tx
 
-abbrev pub or_lower : ℕ → Option ℕ → ℕ
-or_lower n None = n
-or_lower n (Some m) = min n m
+abbrev pub lower_of : ℕ → Option ℕ → ℕ
+lower_of n None = n
+lower_of n (Some m) = min n m
 
 -- ---- one record
 
 abbrev pub with_noted : Begins → ℕ → ℕ → Action → Begins
-with_noted b lsn tx Begin = if is_ended b lsn then b else record b { lowest = Some (or_lower lsn b.lowest) }
+with_noted b lsn tx Begin = if is_ended b lsn then b else record b { lowest = Some (lower_of lsn b.lowest) }
 with_noted b lsn tx Commit = record b { ended = insert_key nat_cmp b.ended tx }
 with_noted b lsn tx Abandon = record b { ended = insert_key nat_cmp b.ended tx }
 with_noted b lsn tx Mark = record b { marked = true }
@@ -37,4 +37,4 @@ with_noted b lsn tx other = b
 -- These records, listed oldest first, were offered from the last to the first.
 pub record HasNoted (b : Begins) (later : List Numbered) : Type 0 where
   pub ended : (tx : ℕ) → is_ended b tx ≡ list_any (λ (l : Numbered). is_ended_by tx l.what.tx l.what.action) later
-  pub lowest : (n : ℕ) → least n (open_begins later) ≡ or_lower n b.lowest
+  pub lowest : (n : ℕ) → least n (open_begins later) ≡ lower_of n b.lowest

@@ -14,8 +14,8 @@ use Rattle.frs_types.specs.Maps.{Place, same_place}
 use Rattle.frs_types.specs.Survivors.{entry_by}
 
 -- whether k was noted
-abbrev pub has : {K : Type 0} → (K → K → Ordering) → List K → K → Bool
-has cmp noted k = list_any (is_at (cmp k)) noted
+abbrev pub is_noted : {K : Type 0} → (K → K → Ordering) → List K → K → Bool
+is_noted cmp noted k = list_any (is_at (cmp k)) noted
 
 -- the record with its LSN, where it passes
 abbrev pub given_if : Bool → ℕ → Record → Option (ℕ × Record)
@@ -24,7 +24,7 @@ given_if passes lsn r = if passes then Some (lsn, r) else None
 -- ---- transactions: the notes are those whose commit record was offered
 
 abbrev pub is_outside_or_in : List ℕ → ℕ → Bool
-is_outside_or_in commits tx = (tx == 0) || has nat_cmp commits tx
+is_outside_or_in commits tx = (tx == 0) || is_noted nat_cmp commits tx
 
 abbrev pub is_committed : List ℕ → ℕ → Action → Bool
 is_committed commits tx (Put id key value) = is_outside_or_in commits tx
@@ -42,21 +42,21 @@ with_commit commits tx other = commits
 abbrev pub is_unnamed : List ℕ → ℕ → Action → Bool
 is_unnamed named lsn (Delete id) = true
 is_unnamed named lsn (Remove id key) = false
-is_unnamed named lsn other = not (has nat_cmp named lsn)
+is_unnamed named lsn other = not (is_noted nat_cmp named lsn)
 
 abbrev pub with_named : List ℕ → ℕ → List ℕ
 with_named named n = insert_key nat_cmp named n
 
 -- ---- deletes: the notes are the maps that were deleted
 
-abbrev pub has_map : List (List ℕ) → List ℕ → Bool
-has_map deleted id = has (slice_cmp nat_cmp) deleted id
+abbrev pub is_map_noted : List (List ℕ) → List ℕ → Bool
+is_map_noted deleted id = is_noted (slice_cmp nat_cmp) deleted id
 
 abbrev pub is_undeleted : List (List ℕ) → Action → Bool
 is_undeleted deleted (Delete id) = false
-is_undeleted deleted (Put id key value) = not (has_map deleted id)
-is_undeleted deleted (Remove id key) = not (has_map deleted id)
-is_undeleted deleted (Compaction id key value) = not (has_map deleted id)
+is_undeleted deleted (Put id key value) = not (is_map_noted deleted id)
+is_undeleted deleted (Remove id key) = not (is_map_noted deleted id)
+is_undeleted deleted (Compaction id key value) = not (is_map_noted deleted id)
 is_undeleted deleted other = true
 
 abbrev pub deleted_map : Action → Option (List ℕ)

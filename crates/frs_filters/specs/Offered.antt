@@ -6,9 +6,9 @@ use Rattle.frs_types.specs.Records.{Numbered}
 use Rattle.frs_types.specs.Survivors.{is_commit, is_delete_of}
 
 -- the notes of a filter that was offered these records, listed oldest first, from the last to the first
-abbrev pub after_all : {S : Type 0} → (S → ℕ → Record → S) → S → List Numbered → S
-after_all noted start [] = start
-after_all noted start (q ∷ later) = noted (after_all noted start later) q.lsn q.what
+abbrev pub notes_after : {S : Type 0} → (S → ℕ → Record → S) → S → List Numbered → S
+notes_after noted start [] = start
+notes_after noted start (q ∷ later) = noted (notes_after noted start later) q.lsn q.what
 
 -- ---- what such a list has
 

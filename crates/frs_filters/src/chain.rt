@@ -20,7 +20,7 @@ impl Chain {
     ghost use Rattle.std.specs.Prelude.{◌≡◌, List, [], ◌∷◌, IsTrue, OnOk};
     ghost use Rattle.frs_types.specs.Records.{Numbered, is_allowed};
     ghost use Rattle.frs_types.specs.Survivors.{committed_records, survivors_of};
-    ghost use Rattle.frs_filters.specs.Chain.{HasSeen, passed};
+    ghost use Rattle.frs_filters.specs.Chain.{HasSeen, chain_after};
 
     /// A chain that was offered nothing.
     pub fn new(alloc: Global) -> Chain
@@ -53,7 +53,7 @@ impl Chain {
 
     // One record through the filters.
     fn pass(&mut self, lsn: u64, r: Record) -> Result<(), NoMemory>
-        ensures { OnOk result (self.new ≡ passed self.old lsn r) }
+        ensures { OnOk result (self.new ≡ chain_after self.old lsn r) }
     {
         let Some((lsn, r)) = self.transactions.offer(lsn, r)? else {
             return Ok(());

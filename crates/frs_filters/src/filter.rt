@@ -1,6 +1,6 @@
 //! What a filter is.
 ghost use Rattle.std.specs.Prelude.{◌≡◌, ℕ, Option, IfOk, OnOk, OnErr};
-ghost use Rattle.frs_types.specs.declared.record.Record.{Record as Said};
+ghost use Rattle.frs_types.specs.declared.record.Record.{Record};
 
 use frs_types::{NoMemory, Record};
 
@@ -8,10 +8,10 @@ use frs_types::{NoMemory, Record};
 /// greatest LSN to the least.
 pub trait Filter {
     /// The record that it gives on, with its LSN.
-    ghost given: { Self → ℕ → Said → Option (ℕ × Said) };
+    ghost given: { Self → ℕ → Record → Option (ℕ × Record) };
 
     /// The filter once the record was offered.
-    ghost noted: { Self → ℕ → Said → Self };
+    ghost noted: { Self → ℕ → Record → Self };
 
     /// Gives the record on, or drops it and answers `None`. Where there was no memory for a note, the record is gone
     /// and the filter is as it was.

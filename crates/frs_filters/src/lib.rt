@@ -2,24 +2,24 @@
 //! chain of the four, which leaves the survivors as entries.
 #![tactic(auto)]
 
-mod begins;
 mod chain;
 mod delete;
 mod filter;
-mod law;
-mod log;
+mod offered;
+mod open_begins;
 mod replay;
 mod skip;
+mod survivors;
 mod transaction;
 
-pub use begins::OpenBegins;
 pub use chain::Chain;
 pub use delete::DeleteFilter;
 pub use filter::Filter;
-pub use law::{notes_of_offered, survivors_in_order};
-pub use log::survivors_of_log;
+pub use offered::notes_of_offered;
+pub use open_begins::OpenBegins;
 pub use replay::ReplayFilter;
 pub use skip::SkipFilter;
+pub use survivors::survivors_in_order;
 pub use transaction::TransactionFilter;
 
 #[cfg(test)]

@@ -20,16 +20,16 @@ pub struct ReplayFilter {
 
 impl Model for ReplayFilter {
     ghost use Rattle.std.specs.Prelude.{◌≡◌, List, reverse};
-    ghost use Rattle.frs_types.specs.declared.record.Entry.{Entry as Kept};
+    ghost use Rattle.frs_types.specs.declared.record.Entry.{Entry};
     ghost use Rattle.frs_types.specs.Maps.{Place, place_cmp};
 
-    ghost Value = { List Kept };
+    ghost Value = { List Entry };
 
-    ghost use Rattle.frs_filters.specs.Filters.{has, is_placed};
+    ghost use Rattle.frs_filters.specs.Filters.{is_noted, is_placed};
 
     ghost view = { λ a. reverse a.kept.items };
 
-    ghost invariant = { λ a. (p : Place) → has place_cmp a.places.keys p ≡ is_placed (reverse a.kept.items) p };
+    ghost invariant = { λ a. (p : Place) → is_noted place_cmp a.places.keys p ≡ is_placed (reverse a.kept.items) p };
 }
 
 impl ReplayFilter {

@@ -282,7 +282,6 @@ fn written_again_behind_a_begin(rt: HostRuntime) -> Result<(), Fail> {
 #[test]
 fn no_changes(rt: HostRuntime) -> Result<(), Fail> {
     let alloc = rt.alloc();
-    assert_eq!(rt; survivors_of_log(alloc, 1, Vec::new(alloc))?.len(), 0);
     let left = left_of(&rt, alloc, Vec::new(alloc))?;
     expect(&rt, &left, &[], 1);
     let left = left_of(&rt, alloc, vec![in alloc; mark()]?)?;

@@ -1,5 +1,5 @@
 -- What the chain holds after one record in front.
-use Rattle.frs_filters.proofs.ChainStep.{one_more, on_ok}
+use Rattle.frs_filters.proofs.HasSeen.{one_more, on_ok}
 use Rattle.frs_filters.proofs.chain.Chain.offer.Goals as goal
 
 pub returns : goal.returns

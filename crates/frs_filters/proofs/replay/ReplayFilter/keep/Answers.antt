@@ -1,6 +1,6 @@
 -- The entry is pushed behind the others, and its place is noted.
 use Rattle.std.proofs.Common.{◌∙◌, sym}
-use Rattle.frs_filters.proofs.Notes.{same_pushed, noted_pushed, older_pushed}
+use Rattle.frs_filters.proofs.IsNoted.{same_pushed, noted_pushed, older_pushed}
 use Rattle.frs_filters.proofs.replay.ReplayFilter.keep.Goals as goal
 
 pub invariant_of-self-2 : goal.invariant_of-self-2

@@ -9,19 +9,19 @@ use Rattle.frs_types.specs.declared.record.Action.TheVariants.{Put, Remove, Dele
 use Rattle.frs_types.specs.declared.record.Record.{Record}
 use Rattle.frs_types.specs.Records.{Numbered}
 use Rattle.frs_types.specs.Survivors.{is_ended_by, open_begins, least}
-use Rattle.frs_filters.specs.Filters.{has}
-use Rattle.frs_filters.specs.Begins.{Begins, is_ended, or_lower, with_noted, HasNoted}
-use Rattle.frs_filters.proofs.Notes.{has-number, or_swap}
+use Rattle.frs_filters.specs.Filters.{is_noted}
+use Rattle.frs_filters.specs.Begins.{Begins, is_ended, lower_of, with_noted, HasNoted}
+use Rattle.frs_filters.proofs.IsNoted.{noted-number, or_swap}
 
 abbrev numbered_at : ℕ → ℕ → ℕ → ℕ → Action → Numbered
 numbered_at lsn tx lowest named a = record { lsn = lsn; what = record { tx = tx; lowest = lowest; named = named; action = a } }
 
-min_two : (n k : ℕ) (m : Option ℕ) → or_lower (min n k) m ≡ min n (or_lower k m)
+min_two : (n k : ℕ) (m : Option ℕ) → lower_of (min n k) m ≡ min n (lower_of k m)
 min_two n k None = refl
 min_two n k (Some m) = omega arith
 
 -- a begin, ended or not
-begin : (b : Begins) (later : List Numbered) (lsn tx lowest named : ℕ) (e : Bool) → is_ended b lsn ≡ e → HasNoted b later → HasNoted (if e then b else record b { lowest = Some (or_lower lsn b.lowest) }) (numbered_at lsn tx lowest named Begin ∷ later)
+begin : (b : Begins) (later : List Numbered) (lsn tx lowest named : ℕ) (e : Bool) → is_ended b lsn ≡ e → HasNoted b later → HasNoted (if e then b else record b { lowest = Some (lower_of lsn b.lowest) }) (numbered_at lsn tx lowest named Begin ∷ later)
 begin b later lsn tx lowest named true h seen = record {
   ended = seen.ended;
   lowest = λ n. ap (λ v. least n (if not v then lsn ∷ open_begins later else open_begins later)) (sym (seen.ended lsn) ∙ h) ∙ seen.lowest n;
@@ -32,8 +32,8 @@ begin b later lsn tx lowest named false h seen = record {
 }
 
 ends : (b : Begins) (later : List Numbered) (tx t : ℕ) → is_ended b t ≡ list_any (λ (l : Numbered). is_ended_by t l.what.tx l.what.action) later
-    → (b.marked || has nat_cmp (insert_key nat_cmp b.ended tx) t) ≡ ((tx == t) || list_any (λ (l : Numbered). is_ended_by t l.what.tx l.what.action) later)
-ends b later tx t h = ap (λ v. b.marked || v) (has-number b.ended tx t _ refl) ∙ or_swap b.marked (tx == t) (has nat_cmp b.ended t) ∙ ap (λ v. (tx == t) || v) h
+    → (b.marked || is_noted nat_cmp (insert_key nat_cmp b.ended tx) t) ≡ ((tx == t) || list_any (λ (l : Numbered). is_ended_by t l.what.tx l.what.action) later)
+ends b later tx t h = ap (λ v. b.marked || v) (noted-number b.ended tx t _ refl) ∙ or_swap b.marked (tx == t) (is_noted nat_cmp b.ended t) ∙ ap (λ v. (tx == t) || v) h
 
 noted : (b : Begins) (later : List Numbered) (lsn tx lowest named : ℕ) (a : Action) → HasNoted b later → HasNoted (with_noted b lsn tx a) (numbered_at lsn tx lowest named a ∷ later)
 noted b later lsn tx lowest named Begin seen = begin b later lsn tx lowest named (is_ended b lsn) refl seen

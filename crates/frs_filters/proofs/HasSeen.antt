@@ -1,5 +1,6 @@
 -- One record through the filters, in front of those that were offered.
 use Rattle.std.proofs.Common.{◌≡◌, ℕ, ◌<◌, Bool, true, false, not, ◌&&◌, ◌||◌, List, ◌∷◌, Some, None, refl, sym, ap, ◌∙◌, subst, arith, nat_cmp, true≢false}
+use Rattle.frs_types.proofs.LogExamples.{rec}
 use Rattle.frs_types.specs.declared.memory.NoMemory.{NoMemory}
 use Rattle.std.specs.Prelude.{Result, Ok, Err, OnOk, ◌==◌, nat_lt, nat_le, IsTrue, if◌then◌else◌}
 use Rattle.std.specs.List.{list_any}
@@ -11,9 +12,9 @@ use Rattle.frs_types.specs.declared.record.Entry.{Entry}
 use Rattle.frs_types.specs.Records.{Numbered, is_allowed, kind_allows, has_words}
 use Rattle.frs_types.specs.Survivors.{is_commit, is_delete_of, entry_by, with_entry, committed, committed_records, survivors_of}
 use Rattle.frs_filters.specs.declared.chain.Chain.{Chain}
-use Rattle.frs_filters.specs.Filters.{has, has_map, given_if, is_committed, with_commit, is_unnamed, with_named, is_undeleted, with_deleted, is_placed, with_older, with_replayed}
-use Rattle.frs_filters.specs.Chain.{past_deletes, past_skips, past_transactions, passed, HasSeen}
-use Rattle.frs_filters.proofs.Notes.{has-number, has-id}
+use Rattle.frs_filters.specs.Filters.{is_noted, is_map_noted, given_if, is_committed, with_commit, is_unnamed, with_named, is_undeleted, with_deleted, is_placed, with_older, with_replayed}
+use Rattle.frs_filters.specs.Chain.{past_deletes, past_skips, past_transactions, chain_after, HasSeen}
+use Rattle.frs_filters.proofs.IsNoted.{noted-number, noted-id}
 
 -- ---- the filters one behind the other, field by field
 
@@ -42,8 +43,8 @@ past_transactions-is c false lsn r = refl
 -- ---- what is held of the committed records
 
 record Holds (noted : List ℕ) (gone : List (List ℕ)) (entries : List Entry) (ls : List Numbered) : Type 0 where
-  pub named : (n : ℕ) → 0 < n → has nat_cmp noted n ≡ list_any (λ (l : Numbered). l.what.named == n) ls
-  pub deleted : (id : List ℕ) → has_map gone id ≡ list_any (λ (l : Numbered). is_delete_of id l.what.action) ls
+  pub named : (n : ℕ) → 0 < n → is_noted nat_cmp noted n ≡ list_any (λ (l : Numbered). l.what.named == n) ls
+  pub deleted : (id : List ℕ) → is_map_noted gone id ≡ list_any (λ (l : Numbered). is_delete_of id l.what.action) ls
   pub kept : entries ≡ survivors_of ls
 
 abbrev HoldsOf : Chain → List Numbered → Type 0
@@ -71,16 +72,16 @@ same_either : {A : Type 0} (b : Bool) (x : A) → (if b then x else x) ≡ x
 same_either true x = refl
 same_either false x = refl
 
-named_step : (named : List ℕ) (ls : List Numbered) (b : Bool) (lsn : ℕ) (r : Record) → ((n : ℕ) → 0 < n → has nat_cmp named n ≡ list_any (λ (l : Numbered). l.what.named == n) ls)
-    → (n : ℕ) → 0 < n → has nat_cmp (if b then with_named named r.named else named) n ≡ list_any (λ (l : Numbered). l.what.named == n) (in_front b lsn r ls)
-named_step named ls true lsn r h n p = has-number named r.named n _ (h n p)
+named_step : (named : List ℕ) (ls : List Numbered) (b : Bool) (lsn : ℕ) (r : Record) → ((n : ℕ) → 0 < n → is_noted nat_cmp named n ≡ list_any (λ (l : Numbered). l.what.named == n) ls)
+    → (n : ℕ) → 0 < n → is_noted nat_cmp (if b then with_named named r.named else named) n ≡ list_any (λ (l : Numbered). l.what.named == n) (in_front b lsn r ls)
+named_step named ls true lsn r h n p = noted-number named r.named n _ (h n p)
 named_step named ls false lsn r h n p = h n p
 
 -- no delete
-gone_step : (gone : List (List ℕ)) (ls : List Numbered) (b s : Bool) (lsn : ℕ) (r : Record) → ((id : List ℕ) → is_delete_of id r.action ≡ false) → with_deleted gone r.action ≡ gone → ((id : List ℕ) → has_map gone id ≡ list_any (λ (l : Numbered). is_delete_of id l.what.action) ls)
-    → (id : List ℕ) → has_map (if b && s then with_deleted gone r.action else gone) id ≡ list_any (λ (l : Numbered). is_delete_of id l.what.action) (in_front b lsn r ls)
+gone_step : (gone : List (List ℕ)) (ls : List Numbered) (b s : Bool) (lsn : ℕ) (r : Record) → ((id : List ℕ) → is_delete_of id r.action ≡ false) → with_deleted gone r.action ≡ gone → ((id : List ℕ) → is_map_noted gone id ≡ list_any (λ (l : Numbered). is_delete_of id l.what.action) ls)
+    → (id : List ℕ) → is_map_noted (if b && s then with_deleted gone r.action else gone) id ≡ list_any (λ (l : Numbered). is_delete_of id l.what.action) (in_front b lsn r ls)
 gone_step gone ls b s lsn r d w h id =
-    ap (λ g. has_map (if b && s then g else gone) id) w ∙ ap (λ g. has_map g id) (same_either (b && s) gone) ∙ h id
+    ap (λ g. is_map_noted (if b && s then g else gone) id) w ∙ ap (λ g. is_map_noted g id) (same_either (b && s) gone) ∙ h id
     ∙ elim b as (λ v. list_any (λ (l : Numbered). is_delete_of id l.what.action) ls ≡ list_any (λ (l : Numbered). is_delete_of id l.what.action) (in_front v lsn r ls)) [
       | true ↦ ap (λ v. v || list_any (λ (l : Numbered). is_delete_of id l.what.action) ls) (sym (d id))
       | false ↦ refl
@@ -94,15 +95,12 @@ entry_in_front false true kept e = refl
 entry_in_front false false kept e = refl
 
 entry_step : (named : List ℕ) (gone : List (List ℕ)) (kept : List Entry) (ls : List Numbered) (b : Bool) (lsn : ℕ) (r : Record) (e : Entry) → 0 < lsn → e.lsn ≡ lsn → entry_by lsn r.action ≡ Some e → Holds named gone kept ls
-    → (if b && not (has nat_cmp named lsn) && not (has_map gone e.id) then with_older kept (Some e) else kept) ≡ survivors_of (in_front b lsn r ls)
+    → (if b && not (is_noted nat_cmp named lsn) && not (is_map_noted gone e.id) then with_older kept (Some e) else kept) ≡ survivors_of (in_front b lsn r ls)
 entry_step named gone kept ls false lsn r e p l o h = h.kept
 entry_step named gone kept ls true lsn r e p l o h =
-    entry_in_front (has nat_cmp named lsn) (has_map gone e.id) kept e
+    entry_in_front (is_noted nat_cmp named lsn) (is_map_noted gone e.id) kept e
     ∙ (λ i. if (h.named lsn p ∙ ap (λ n. list_any (λ (l : Numbered). l.what.named == n) ls) (sym l)) i || h.deleted e.id i || is_placed (h.kept i) (e.id, e.key) then h.kept i else e ∷ h.kept i)
     ∙ ap (λ o. with_entry o ls (survivors_of ls)) (sym o)
-
-abbrev rec : ℕ → ℕ → ℕ → Action → Record
-rec tx lowest named a = record { tx = tx; lowest = lowest; named = named; action = a }
 
 -- the record is one that the transaction filter may pass
 abbrev is_change : Action → Bool
@@ -115,12 +113,12 @@ is_change other = false
 change : (c : Chain) (ls : List Numbered) (b : Bool) (lsn tx lowest named : ℕ) (a : Action) → is_change a ≡ true → 0 < lsn → HoldsOf c ls → HoldsOf (flat c b lsn (rec tx lowest named a)) (in_front b lsn (rec tx lowest named a) ls)
 change c ls b lsn tx lowest named (Put id key value) t p h = record {
   named = named_step c.skips ls b lsn (rec tx lowest named (Put id key value)) h.named;
-  deleted = gone_step c.deletes ls b (not (has nat_cmp c.skips lsn)) lsn (rec tx lowest named (Put id key value)) (λ _. refl) refl h.deleted;
+  deleted = gone_step c.deletes ls b (not (is_noted nat_cmp c.skips lsn)) lsn (rec tx lowest named (Put id key value)) (λ _. refl) refl h.deleted;
   kept = entry_step c.skips c.deletes c.replay ls b lsn (rec tx lowest named (Put id key value)) (record { id = id; key = key; value = value; lsn = lsn }) p refl refl h;
 }
 change c ls b lsn tx lowest named (Compaction id key value) t p h = record {
   named = named_step c.skips ls b lsn (rec tx lowest named (Compaction id key value)) h.named;
-  deleted = gone_step c.deletes ls b (not (has nat_cmp c.skips lsn)) lsn (rec tx lowest named (Compaction id key value)) (λ _. refl) refl h.deleted;
+  deleted = gone_step c.deletes ls b (not (is_noted nat_cmp c.skips lsn)) lsn (rec tx lowest named (Compaction id key value)) (λ _. refl) refl h.deleted;
   kept = entry_step c.skips c.deletes c.replay ls b lsn (rec tx lowest named (Compaction id key value)) (record { id = id; key = key; value = value; lsn = lsn }) p refl refl h;
 }
 change c ls true lsn tx lowest named (Remove id key) t p h = record {
@@ -131,7 +129,7 @@ change c ls true lsn tx lowest named (Remove id key) t p h = record {
 change c ls false lsn tx lowest named (Remove id key) t p h = h
 change c ls true lsn tx lowest named (Delete id) t p h = record {
   named = named_step c.skips ls true lsn (rec tx lowest named (Delete id)) h.named;
-  deleted = λ q. has-id c.deletes id q _ (h.deleted q);
+  deleted = λ q. noted-id c.deletes id q _ (h.deleted q);
   kept = h.kept;
 }
 change c ls false lsn tx lowest named (Delete id) t p h = h
@@ -150,10 +148,10 @@ above_zero lsn tx lowest named a ok =
 
 -- the commits of the records so far
 abbrev pub AreCommits : List ℕ → List Numbered → Type 0
-AreCommits commits later = (tx : ℕ) → has nat_cmp commits tx ≡ list_any (λ (l : Numbered). is_commit l.what.action && (l.what.tx == tx)) later
+AreCommits commits later = (tx : ℕ) → is_noted nat_cmp commits tx ≡ list_any (λ (l : Numbered). is_commit l.what.action && (l.what.tx == tx)) later
 
 pub commits_step : (commits : List ℕ) (later : List Numbered) (lsn tx lowest named : ℕ) (a : Action) → AreCommits commits later → AreCommits (with_commit commits tx a) (at_lsn lsn (rec tx lowest named a) ∷ later)
-commits_step commits later lsn tx lowest named Commit h = λ t. has-number commits tx t _ (h t)
+commits_step commits later lsn tx lowest named Commit h = λ t. noted-number commits tx t _ (h t)
 commits_step commits later lsn tx lowest named (Put id key value) h = h
 commits_step commits later lsn tx lowest named (Remove id key) h = h
 commits_step commits later lsn tx lowest named (Delete id) h = h
@@ -188,7 +186,7 @@ held c later lsn tx lowest named (Remove id key) k p cs h = changed c later lsn 
 held c later lsn tx lowest named (Delete id) k p cs h = changed c later lsn tx lowest named (Delete id) refl p cs h
 held c later lsn tx lowest named (Compaction id key value) k p cs h = changed c later lsn tx lowest named (Compaction id key value) refl p cs h
 
-pub one_more : (c : Chain) (later : List Numbered) (lsn : ℕ) (r : Record) → IsTrue (is_allowed lsn r) → HasSeen c later → HasSeen (passed c lsn r) (record { lsn = lsn; what = r } ∷ later)
+pub one_more : (c : Chain) (later : List Numbered) (lsn : ℕ) (r : Record) → IsTrue (is_allowed lsn r) → HasSeen c later → HasSeen (chain_after c lsn r) (record { lsn = lsn; what = r } ∷ later)
 one_more c later lsn r ok h =
     let known = above_zero lsn r.tx r.lowest r.named r.action ok in
     let parts = held c later lsn r.tx r.lowest r.named r.action known.0 known.1 h.commits (record { named = h.named; deleted = h.deleted; kept = h.kept }) in

@@ -2,8 +2,8 @@
 use Rattle.std.specs.Prelude.{◌+◌, length}
 use Rattle.frs_types.specs.Records.{numbered_records_from}
 use Rattle.frs_types.specs.Survivors.{committed_records}
-use Rattle.frs_filters.proofs.Rising.{all_rise, open_rise, survivors_apart, rising_of, within_of}
-use Rattle.frs_filters.proofs.law.survivors_in_order.Goals as goal
+use Rattle.frs_filters.proofs.RiseIn.{all_rise, open_rise, survivors_apart, rising_of, within_of}
+use Rattle.frs_filters.proofs.survivors.survivors_in_order.Goals as goal
 
 pub returns-clause-places : goal.returns-clause-places
 returns-clause-places c first rs = survivors_apart (committed_records (numbered_records_from first rs))

@@ -2,7 +2,7 @@
 ghost use Rattle.std.specs.Prelude.{◌≡◌, List, [], ◌∷◌, OnOk, OnErr};
 ghost use Rattle.frs_types.specs.Records.{Numbered};
 ghost use Rattle.frs_types.specs.Survivors.{least, open_begins};
-ghost use Rattle.frs_filters.specs.Begins.{is_ended, or_lower, with_noted, HasNoted};
+ghost use Rattle.frs_filters.specs.Begins.{is_ended, lower_of, with_noted, HasNoted};
 
 use frs_types::{Action, NoMemory, Record};
 use std::alloc::Global;
@@ -55,7 +55,7 @@ impl OpenBegins {
 
     // The least begin that stays open and the LSN.
     fn lower(&self, lsn: u64) -> u64
-        ensures { result ≡ or_lower lsn self.now.lowest }
+        ensures { result ≡ lower_of lsn self.now.lowest }
     {
         match self.lowest {
             Some(lowest) => lsn.min(lowest),

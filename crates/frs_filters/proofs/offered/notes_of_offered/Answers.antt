@@ -1,6 +1,6 @@
 -- By induction over the list.
-use Rattle.frs_filters.proofs.Offers.{commits_noted, names_noted, deletes_noted}
-use Rattle.frs_filters.proofs.law.notes_of_offered.Goals as goal
+use Rattle.frs_filters.proofs.NotesAfter.{commits_noted, names_noted, deletes_noted}
+use Rattle.frs_filters.proofs.offered.notes_of_offered.Goals as goal
 
 pub returns-clause-commits : goal.returns-clause-commits
 returns-clause-commits c = commits_noted
