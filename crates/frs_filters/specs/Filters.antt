@@ -1,4 +1,5 @@
--- What each filter passes, and what it has noted afterwards. Numbers and ids that were noted are listed rising, each once.
+-- What each filter passes, and what it has noted afterwards. Numbers and ids that were noted are listed rising, each
+-- once.
 use Rattle.std.specs.Prelude.{ℕ, Bool, true, false, not, ◌||◌, ◌==◌, List, ◌∷◌, Option, Some, None, if◌then◌else◌}
 use Rattle.std.specs.List.{list_any}
 use Rattle.std.specs.declared.cmp.Ordering.{Ordering}

@@ -38,14 +38,16 @@ impl Chain {
     /// this LSN. Where there was no memory, the chain has lost the record and is of no more use.
     pub fn offer(&mut self, lsn: u64, r: Record) -> Result<(), NoMemory>
         requires { IsTrue (is_allowed lsn r) }
-        ensures { (later : List Numbered) → HasSeen self.old later → OnOk result (HasSeen self.new (record { lsn = lsn; what = r } ∷ later)) }
+        ensures { (later : List Numbered) → HasSeen self.old later
+            → OnOk result (HasSeen self.new (record { lsn = lsn; what = r } ∷ later)) }
     {
         self.pass(lsn, r)
     }
 
     /// The survivors of the records that were offered, rising by LSN.
     pub fn entries(self) -> Vec<Entry>
-        ensures { (later : List Numbered) → HasSeen self later → result.items ≡ survivors_of (committed_records later) }
+        ensures { (later : List Numbered) → HasSeen self later
+            → result.items ≡ survivors_of (committed_records later) }
     {
         let Chain { replay, .. } = self;
         replay.entries()

@@ -14,7 +14,13 @@ use crate::transaction::TransactionFilter;
 /// Then the transactions that were noted are those of the commit records among them, the LSNs are those that they name,
 /// and the maps are those that they delete, whether or not a record was given on.
 pub fn notes_of_offered()
-    ensures commits { (later : List Numbered) (tx : ℕ) → is_noted nat_cmp (notes_after ⟦<TransactionFilter as Filter>⟧.noted [] later) tx ≡ commits_in later tx }
-    ensures names { (later : List Numbered) (n : ℕ) → is_noted nat_cmp (notes_after ⟦<SkipFilter as Filter>⟧.noted [] later) n ≡ names_in later n }
-    ensures deletes { (later : List Numbered) (id : List ℕ) → is_map_noted (notes_after ⟦<DeleteFilter as Filter>⟧.noted [] later) id ≡ deletes_in later id }
+    ensures commits { (later : List Numbered) (tx : ℕ)
+        → is_noted nat_cmp (notes_after ⟦<TransactionFilter as Filter>⟧.noted [] later) tx
+        ≡ commits_in later tx }
+    ensures names { (later : List Numbered) (n : ℕ)
+        → is_noted nat_cmp (notes_after ⟦<SkipFilter as Filter>⟧.noted [] later) n
+        ≡ names_in later n }
+    ensures deletes { (later : List Numbered) (id : List ℕ)
+        → is_map_noted (notes_after ⟦<DeleteFilter as Filter>⟧.noted [] later) id
+        ≡ deletes_in later id }
 {}

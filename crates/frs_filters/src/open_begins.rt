@@ -40,7 +40,8 @@ impl OpenBegins {
 
     /// Shows the record that stands before all those that were shown. Where there was no memory, nothing is noted.
     pub fn note(&mut self, lsn: u64, r: &Record) -> Result<(), NoMemory>
-        ensures noted { (later : List Numbered) → HasNoted self.old later → OnOk result (HasNoted self.new (record { lsn = lsn; what = r.now } ∷ later)) }
+        ensures noted { (later : List Numbered) → HasNoted self.old later
+            → OnOk result (HasNoted self.new (record { lsn = lsn; what = r.now } ∷ later)) }
         ensures refused { OnErr result (self.new ≡ self.old) }
     {
         self.step(lsn, r)
@@ -48,7 +49,8 @@ impl OpenBegins {
 
     /// The least of the open begins and of `next`.
     pub fn lowest(&self, next: u64) -> u64
-        ensures { (later : List Numbered) → HasNoted self.now later → result ≡ least next (open_begins later) }
+        ensures { (later : List Numbered) → HasNoted self.now later
+            → result ≡ least next (open_begins later) }
     {
         self.lower(next)
     }

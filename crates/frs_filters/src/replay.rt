@@ -29,7 +29,8 @@ impl Model for ReplayFilter {
 
     ghost view = { λ a. reverse a.kept.items };
 
-    ghost invariant = { λ a. (p : Place) → is_noted place_cmp a.places.keys p ≡ is_placed (reverse a.kept.items) p };
+    ghost invariant = { λ a. (p : Place)
+        → is_noted place_cmp a.places.keys p ≡ is_placed (reverse a.kept.items) p };
 }
 
 impl ReplayFilter {

@@ -35,7 +35,8 @@ GivesDecoded view (Err fault) read = FailsDecoding fault read
 
 -- the bytes of a field from one offset to another, where they are there
 unfoldable pub field : List ℕ → ℕ → ℕ → Reading (List ℕ)
-field bytes at end = if nat_lt (length bytes) end then Err (faults.Short end (length bytes)) else Ok (slice_range bytes at end, end)
+field bytes at end =
+    if nat_lt (length bytes) end then Err (faults.Short end (length bytes)) else Ok (slice_range bytes at end, end)
 
 unfoldable pub number_at : Width → List ℕ → ℕ → Reading ℕ
 number_at width bytes at = field bytes at (at + byte_len width) >>= λ f. Ok (from_be_bytes width f.0, f.1)
@@ -59,12 +60,15 @@ value_at = word_at value_width is_value_len
 
 -- what stands behind the head, by the kind
 unfoldable pub action_at : Kind → List ℕ → ℕ → Reading Action
-action_at Put bytes at = id_at bytes at >>= λ i. key_at bytes i.1 >>= λ k. value_at bytes k.1 >>= λ v. Ok (actions.Put i.0 k.0 v.0, v.1)
+action_at Put bytes at =
+    id_at bytes at >>= λ i. key_at bytes i.1 >>= λ k. value_at bytes k.1 >>= λ v. Ok (actions.Put i.0 k.0 v.0, v.1)
 action_at Remove bytes at = id_at bytes at >>= λ i. key_at bytes i.1 >>= λ k. Ok (actions.Remove i.0 k.0, k.1)
 action_at Delete bytes at = id_at bytes at >>= λ i. Ok (actions.Delete i.0, i.1)
 action_at Begin bytes at = Ok (actions.Begin, at)
 action_at Commit bytes at = Ok (actions.Commit, at)
-action_at Compaction bytes at = id_at bytes at >>= λ i. key_at bytes i.1 >>= λ k. value_at bytes k.1 >>= λ v. Ok (actions.Compaction i.0 k.0 v.0, v.1)
+action_at Compaction bytes at =
+    id_at bytes at >>= λ i. key_at bytes i.1 >>= λ k. value_at bytes k.1 >>= λ v.
+    Ok (actions.Compaction i.0 k.0 v.0, v.1)
 action_at Mark bytes at = Ok (actions.Mark, at)
 action_at Abandon bytes at = Ok (actions.Abandon, at)
 

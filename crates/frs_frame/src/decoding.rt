@@ -26,7 +26,8 @@ fn field(bytes: &[u8], at: usize, len: usize) -> Result<(&[u8], usize), FrameFau
     requires inside { at ≤ length bytes.now }
     requires few { len ≤ VALUE_LIMIT }
     ensures read { GivesDecoded (λ f. (f.0.now, f.1)) result (field bytes.now at (at + len)) }
-    ensures found { IfOk result (λ f. (f.1 ≡ at + len) × (f.1 ≤ length bytes.now) × (length f.0.now ≡ len)) }
+    ensures found { IfOk result (λ f. (f.1 ≡ at + len) × (f.1 ≤ length bytes.now)
+        × (length f.0.now ≡ len)) }
 {
     let end = at + len;
     if bytes.len() < end {
@@ -232,7 +233,9 @@ pub fn decode(alloc: Global, bytes: &[u8]) -> Result<(Record, u64), FrameFault>
     ensures found { IfOk result (λ x. StandsAtFront bytes.now x.0 x.1) }
 
     // What stands at the front and is allowed is read, unless memory runs out.
-    ensures only { (r : Record) (rest : List ℕ) → Fits r → IsTrue (well_formed r) → bytes.now ≡ spelling r ++ rest → GivesDecoded (λ x. x) result (Ok (r, length (spelling r))) }
+    ensures only { (r : Record) (rest : List ℕ) → Fits r → IsTrue (well_formed r)
+        → bytes.now ≡ spelling r ++ rest
+        → GivesDecoded (λ x. x) result (Ok (r, length (spelling r))) }
 
     // Which fault it is.
     ensures exact { GivesDecoded (λ x. x) result (decoding_of bytes.now) }

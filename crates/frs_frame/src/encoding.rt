@@ -51,7 +51,8 @@ impl Model for Framed {
 
     ghost view = { λ a. a.bytes.items };
 
-    ghost invariant = { λ a. (RECORD_HEAD ≤ length a.bytes.items) × (length a.bytes.items ≤ RECORD_LIMIT) };
+    ghost invariant = { λ a. (RECORD_HEAD ≤ length a.bytes.items)
+        × (length a.bytes.items ≤ RECORD_LIMIT) };
 }
 
 impl Framed {
@@ -68,7 +69,8 @@ impl Framed {
     #[tactic(auto, unfolding(crate::specs::Spelling::with_numbers, crate::specs::Spelling::spelling))]
     pub fn patch(&mut self, tx: u64, lowest: u64, named: u64)
         ensures set { self.new ≡ with_numbers tx lowest named self.old }
-        ensures spelled { (r : Record) → self.old ≡ spelling r → self.new ≡ spelling (record r { tx = tx; lowest = lowest; named = named }) }
+        ensures spelled { (r : Record) → self.old ≡ spelling r
+            → self.new ≡ spelling (record r { tx = tx; lowest = lowest; named = named }) }
     {
         write_numbers(&mut self.bytes, tx, lowest, named);
     }

@@ -9,8 +9,10 @@ use crate::encoding::{RECORD_HEAD, RECORD_LIMIT};
 /// No bytes are two records: from the front of bytes at most one record can be read, and what is behind it is then
 /// settled too. So records have different spellings, and no spelling is a proper front of another.
 pub fn one_spelling()
-    ensures one_record { (r q : Record) (rest other : List ℕ) → Fits r → Fits q → spelling r ++ rest ≡ spelling q ++ other → (r ≡ q) × (rest ≡ other) }
-    ensures no_front { (r q : Record) (rest : List ℕ) → Fits r → Fits q → spelling r ++ rest ≡ spelling q → (r ≡ q) × (rest ≡ []) }
+    ensures one_record { (r q : Record) (rest other : List ℕ) → Fits r → Fits q
+        → spelling r ++ rest ≡ spelling q ++ other → (r ≡ q) × (rest ≡ other) }
+    ensures no_front { (r q : Record) (rest : List ℕ) → Fits r → Fits q
+        → spelling r ++ rest ≡ spelling q → (r ≡ q) × (rest ≡ []) }
     ensures injective { (r q : Record) → Fits r → Fits q → spelling r ≡ spelling q → r ≡ q }
 {}
 

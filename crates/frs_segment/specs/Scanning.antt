@@ -22,11 +22,18 @@ chunk_place offset first rs = record { offset = offset; first = first; count = l
 -- each chunk stands behind the one before it: a gate, a head, and then its body
 abbrev pub places_from : ℕ → ℕ → List (List Record) → List ChunkPlace
 places_from offset first [] = []
-places_from offset first (rs ∷ chunks) = chunk_place offset first rs ∷ places_from (offset + CHUNK_FRONT + length (body rs)) (first + length rs) chunks
+places_from offset first (rs ∷ chunks) =
+    chunk_place offset first rs ∷ places_from (offset + CHUNK_FRONT + length (body rs)) (first + length rs) chunks
 
 -- the segment as one who has read its file knows it; its first gate is the header's last byte
 abbrev pub places_of_segment : WholeSegment → Segment
-places_of_segment s = record { number = s.number; first = s.first; «end» = end_of s; length = length (segment_spelling s) + 1; chunks = places_from (HEADER_LENGTH - 1) s.first s.chunks }
+places_of_segment s = record {
+  number = s.number;
+  first = s.first;
+  «end» = end_of s;
+  length = length (segment_spelling s) + 1;
+  chunks = places_from (HEADER_LENGTH - 1) s.first s.chunks;
+}
 
 -- ---- the fields of a file's header and of a chunk's head
 
@@ -53,8 +60,10 @@ unfoldable pub head_of : ℕ → ℕ → List ℕ → Result ChunkPlace ScanFaul
 head_of offset next behind =
     if nat_le (length behind) CHUNK_HEAD then Err (BadChunk offset) else
     if nat_le (length behind) (CHUNK_HEAD + field_at w32 0 behind) then Err (BadChunk offset) else
-    if not (nat_le 1 (field_at w32 4 behind) && nat_le (field_at w32 4 behind) MOST_RECORDS) then Err (BadChunk offset) else
-    if not (nat_le 1 (field_at w32 0 behind) && nat_le (field_at w32 0 behind) BODY_LIMIT) then Err (BadChunk offset) else
+    if not (nat_le 1 (field_at w32 4 behind) && nat_le (field_at w32 4 behind) MOST_RECORDS)
+    then Err (BadChunk offset) else
+    if not (nat_le 1 (field_at w32 0 behind) && nat_le (field_at w32 0 behind) BODY_LIMIT)
+    then Err (BadChunk offset) else
     if not (field_at w64 8 behind == next) then Err (BadChunk offset) else
     if nat_lt NUMBER_LIMIT (next + field_at w32 4 behind) then Err (NumberLimit NUMBER_LIMIT) else
     Ok (record { offset = offset; first = next; count = field_at w32 4 behind; body = field_at w32 0 behind })
@@ -118,7 +127,8 @@ IsCauseInFile file fault = IsRefused file fault
 
 -- the place of the chunk behind the open gate at the offset, or what is wrong first; want of memory is free
 abbrev pub TellsChunk : ℕ → ℕ → List ℕ → Result ChunkPlace ScanFault → Type 0
-TellsChunk offset next behind (Ok place) = (place.offset ≡ offset) × (place.first ≡ next) × ((rs : List Record) × IsChunk place (1 ∷ behind) rs)
+TellsChunk offset next behind (Ok place) =
+    (place.offset ≡ offset) × (place.first ≡ next) × ((rs : List Record) × IsChunk place (1 ∷ behind) rs)
 TellsChunk offset next behind (Err Memory) = Unit {0}
 TellsChunk offset next behind (Err fault) = RefusesChunk offset next behind fault
 
@@ -151,5 +161,6 @@ RefusesPlace place text Memory = Unit {0}
 
 -- the record at the front that may have this LSN, and where it ends; or there is none
 abbrev pub TellsRecord : List ℕ → ℕ → Option (Record × ℕ) → Type 0
-TellsRecord bytes lsn (Some (r, len)) = IsTrue (is_allowed lsn r) × (bytes ≡ spelling r ++ drop len bytes) × (len ≤ length bytes)
+TellsRecord bytes lsn (Some (r, len)) =
+    IsTrue (is_allowed lsn r) × (bytes ≡ spelling r ++ drop len bytes) × (len ≤ length bytes)
 TellsRecord bytes lsn None = (r : Record) (rest : List ℕ) → IsTrue (is_allowed lsn r) → bytes ≡ spelling r ++ rest → ⊥

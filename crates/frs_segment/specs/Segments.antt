@@ -42,7 +42,9 @@ segment_spelling s = (1 ∷ header s.number s.first) ++ chunks_bytes s.first s.c
 
 -- a chunk has a record, no more records and bytes than the limits say, and its records may stand at their LSNs
 abbrev pub is_chunk : ℕ → List Record → Bool
-is_chunk first rs = nat_le 1 (length rs) && nat_le (length rs) MOST_RECORDS && nat_le (length (body rs)) BODY_LIMIT && are_allowed_from first rs
+is_chunk first rs =
+    nat_le 1 (length rs) && nat_le (length rs) MOST_RECORDS && nat_le (length (body rs)) BODY_LIMIT
+    && are_allowed_from first rs
 
 abbrev pub are_chunks : ℕ → List (List Record) → Bool
 are_chunks first [] = true
@@ -87,7 +89,8 @@ follow_from n (s ∷ segments) = (s.first == n) && follow_from (end_of s) segmen
 -- of segments that follow each other the first alone begins at or below the LSN
 abbrev pub first_alone_reaches : ℕ → List WholeSegment → Bool
 first_alone_reaches lowest [] = false
-first_alone_reaches lowest (s ∷ segments) = nat_le s.first lowest && list_all (λ (t : WholeSegment). nat_lt lowest t.first) segments
+first_alone_reaches lowest (s ∷ segments) =
+    nat_le s.first lowest && list_all (λ (t : WholeSegment). nat_lt lowest t.first) segments
 
 abbrev pub first_of : List WholeSegment → ℕ
 first_of [] = 1

@@ -17,12 +17,13 @@ abbrev pub is_below : List WholeSegment → File → Bool
 is_below [] file = false
 is_below (s ∷ segments) file = nat_lt file.0 s.number
 
--- An image spells a log by these segments, and this is what was found: the segments, the half-made files among and above
--- them, all files below them, the greatest number of a file, the next LSN, and the lowest that the newest record names.
+-- An image spells a log by these segments, and this is what was found: the segments, the half-made files among and
+-- above them, all files below them, the greatest number of a file, the next LSN, and the lowest that the newest record names.
 pub record IsFound (image : FileList) (segments : List WholeSegment) (log : Log) (found : Found) : Type 0 where
   pub spelled : SpellsBy image segments log
   pub segments_are : found.segments ≡ map places_of_segment segments
-  pub half_are : found.half ≡ numbers_of (filter (λ (f : File). not (is_open_file f) && not (is_below segments f)) image)
+  pub half_are :
+      found.half ≡ numbers_of (filter (λ (f : File). not (is_open_file f) && not (is_below segments f)) image)
   pub older_are : found.older ≡ numbers_of (filter (is_below segments) image)
   pub greatest_is : found.greatest ≡ unwrap_or (last_or None (numbers_of image)) 0
   pub next_is : found.next ≡ next_lsn log
@@ -34,7 +35,8 @@ pub record IsFound (image : FileList) (segments : List WholeSegment) (log : Log)
 -- first LSNs.
 abbrev pub SpellsAlike : FileList → FileList → Type 0
 SpellsAlike a b = (log : Log) (segments : List WholeSegment) → SpellsBy a segments log
-    → (others : List WholeSegment) × SpellsBy b others log × ((log.records ≡ []) ⊎ (places_of others ≡ places_of segments))
+    → (others : List WholeSegment) × SpellsBy b others log
+    × ((log.records ≡ []) ⊎ (places_of others ≡ places_of segments))
 
 -- ---- a log up to one of its records
 

@@ -9,14 +9,18 @@ ghost use Rattle.frs_segment.specs.Scanning.{IsRefused};
 
 /// A file is at most one segment. If it is none, one thing is wrong with it first.
 pub fn one_segment()
-    ensures segment { (file : File) (s t : WholeSegment) → IsSegment file s → IsSegment file t → s ≡ t }
-    ensures refused { (file : File) (s : WholeSegment) (fault : ScanFault) → IsSegment file s → IsRefused file fault → ⊥ }
-    ensures fault { (file : File) (fault other : ScanFault) → IsRefused file fault → IsRefused file other → fault ≡ other }
+    ensures segment { (file : File) (s t : WholeSegment)
+        → IsSegment file s → IsSegment file t → s ≡ t }
+    ensures refused { (file : File) (s : WholeSegment) (fault : ScanFault)
+        → IsSegment file s → IsRefused file fault → ⊥ }
+    ensures fault { (file : File) (fault other : ScanFault)
+        → IsRefused file fault → IsRefused file other → fault ≡ other }
 {}
 
 /// A file of bytes whose number may be a segment's is a segment, or one thing is wrong with it first.
 pub fn segment_or_refused()
-    ensures { (file : File) → IsNumber file.0 → All (λ b. b < 256) file.1 → ((s : WholeSegment) × IsSegment file s) ⊎ ((fault : ScanFault) × IsRefused file fault) }
+    ensures { (file : File) → IsNumber file.0 → All (λ b. b < 256) file.1
+        → ((s : WholeSegment) × IsSegment file s) ⊎ ((fault : ScanFault) × IsRefused file fault) }
 {}
 
 /// A file is refused as half-made exactly where it isn't open. The disk and memory are never what is wrong with a file.
@@ -29,6 +33,8 @@ pub fn refusals()
 
 /// The files of a store spell at most one log, and by at most one list of segments.
 pub fn one_log()
-    ensures segments { (image : FileList) (a b : List WholeSegment) (log other : Log) → SpellsBy image a log → SpellsBy image b other → a ≡ b }
-    ensures log { (image : FileList) (log other : Log) → Spells image log → Spells image other → log ≡ other }
+    ensures segments { (image : FileList) (a b : List WholeSegment) (log other : Log)
+        → SpellsBy image a log → SpellsBy image b other → a ≡ b }
+    ensures log { (image : FileList) (log other : Log)
+        → Spells image log → Spells image other → log ≡ other }
 {}

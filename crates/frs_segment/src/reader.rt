@@ -32,18 +32,24 @@ pub fn scan<D: Disk>(alloc: Global, disk: &mut D, number: u64) -> Result<Segment
 
     // What is read is the segment that the file is.
     ensures found { IfOk result (λ found. IsTrue (D.tells disk.old)
-        → (s : WholeSegment) × IsSegment (number, bytes_at (D.reads disk.old) number) s × (found ≡ places_of_segment s)) }
+        → (s : WholeSegment) × IsSegment (number, bytes_at (D.reads disk.old) number) s
+        × (found ≡ places_of_segment s)) }
 
     // It is a segment of this number also where the disk doesn't tell the file.
-    ensures meant { IfOk result (λ found. IsNumber number → (bytes : List ℕ) × (s : WholeSegment) × IsSegment (number, bytes) s × (found ≡ places_of_segment s)) }
+    ensures meant { IfOk result (λ found. IsNumber number
+        → (bytes : List ℕ) × (s : WholeSegment) × IsSegment (number, bytes) s
+        × (found ≡ places_of_segment s)) }
 
     // If the file is a segment, that is read, unless the disk or memory fails.
-    ensures only { IsTrue (D.tells disk.old) → (s : WholeSegment) → IsSegment (number, bytes_at (D.reads disk.old) number) s
+    ensures only { IsTrue (D.tells disk.old) → (s : WholeSegment)
+        → IsSegment (number, bytes_at (D.reads disk.old) number) s
         → GivesScanned (λ found. found) result (Ok (places_of_segment s)) }
 
     // Which fault it is: that which is first.
-    ensures why { IsTrue (D.tells disk.old) → IfErr result (IsCauseInFile (number, bytes_at (D.reads disk.old) number)) }
-    ensures refused { IsTrue (D.tells disk.old) → (fault : ScanFault) → IsRefused (number, bytes_at (D.reads disk.old) number) fault
+    ensures why { IsTrue (D.tells disk.old)
+        → IfErr result (IsCauseInFile (number, bytes_at (D.reads disk.old) number)) }
+    ensures refused { IsTrue (D.tells disk.old) → (fault : ScanFault)
+        → IsRefused (number, bytes_at (D.reads disk.old) number) fault
         → GivesScanned (λ found. found) result (Err fault) }
 
     ensures frame { OnlyReads D.Disk disk.old disk.new }
@@ -56,7 +62,8 @@ pub fn scan<D: Disk>(alloc: Global, disk: &mut D, number: u64) -> Result<Segment
 // All bytes of a file.
 fn read_whole<D: Disk>(alloc: Global, disk: &mut D, number: u64) -> Result<Vec<u8>, Fault>
     requires there { IsThere D.Disk disk.old number }
-    ensures bytes { IfOk result (λ bytes. IsTrue (D.tells disk.old) → bytes.items ≡ bytes_at (D.reads disk.old) number) }
+    ensures bytes { IfOk result (λ bytes. IsTrue (D.tells disk.old)
+        → bytes.items ≡ bytes_at (D.reads disk.old) number) }
     ensures frame { OnlyReads D.Disk disk.old disk.new }
     ensures cause { HasCause (D.faults disk.old) (D.faults disk.new) result }
 {
@@ -79,10 +86,12 @@ pub fn read_chunk<D: Disk>(
 
     // What is read is the chunk that stands there.
     ensures found { IfOk result (λ records. IsTrue (D.tells disk.old)
-        → IsChunk place.now (drop place.now.offset (bytes_at (D.reads disk.old) number)) records.items) }
+        → IsChunk place.now (drop place.now.offset (bytes_at (D.reads disk.old) number))
+        records.items) }
 
     // The records are such a chunk also where the disk doesn't tell the file.
-    ensures meant { IfOk result (λ records. (text : List ℕ) × IsChunk place.now text records.items) }
+    ensures meant { IfOk result (λ records.
+        (text : List ℕ) × IsChunk place.now text records.items) }
 
     // If it stands there, it is read, unless the disk or memory fails.
     ensures only { IsTrue (D.tells disk.old) → (rs : List Record)
@@ -121,7 +130,8 @@ fn chunk_in(alloc: Global, text: &[u8], place: &ChunkPlace) -> Result<Vec<Record
 
 // Whether an open gate and the head of the chunk that the place tells stand at the front of the bytes.
 fn has_head(text: &[u8], place: &ChunkPlace) -> bool
-    ensures told { IsTrue result ↔ ((slice_index text.now 0 ≡ 1) × (head_of place.now.offset place.now.first (drop 1 text.now) ≡ Ok place.now)) }
+    ensures told { IsTrue result ↔ ((slice_index text.now 0 ≡ 1)
+        × (head_of place.now.offset place.now.first (drop 1 text.now) ≡ Ok place.now)) }
     ensures there { OnTrue result (CHUNK_FRONT + place.now.body < length text.now) }
     ensures within { OnTrue result (place.now.first + place.now.count ≤ NUMBER_LIMIT) }
 {

@@ -42,7 +42,8 @@ pub fn open_segment<D: Disk>(disk: &mut D, number: u64, first: u64) -> Result<()
 ///
 /// After Ok the file is durable. `Failed` and `Memory` leave any bytes behind the gate, and so does a crash in the call.
 pub fn put_body<D: Disk>(disk: &mut D, number: u64, gate_at: u64, body: &[u8]) -> Result<(), Fault>
-    requires gate { IsTrue (D.tells disk.old) → gate_at < length (bytes_at (D.reads disk.old) number) }
+    requires gate { IsTrue (D.tells disk.old)
+        → gate_at < length (bytes_at (D.reads disk.old) number) }
     requires fits { gate_at + 1 < 2 ^ 64 }
 
     ensures written { OnOk result (IsTrue (D.tells disk.old) → get (D.reads disk.new) number
@@ -67,8 +68,8 @@ pub fn put_body<D: Disk>(disk: &mut D, number: u64, gate_at: u64, body: &[u8]) -
 pub fn open_gate<D: Disk>(disk: &mut D, number: u64, gate_at: u64) -> Result<(), Fault>
     requires { IsTrue (D.tells disk.old) → gate_at < length (bytes_at (D.reads disk.old) number) }
 
-    ensures opened { OnOk result (IsTrue (D.tells disk.old)
-        → get (D.reads disk.new) number ≡ Some (slice_set (bytes_at (D.reads disk.old) number) gate_at 1)) }
+    ensures opened { OnOk result (IsTrue (D.tells disk.old) → get (D.reads disk.new) number
+        ≡ Some (slice_set (bytes_at (D.reads disk.old) number) gate_at 1)) }
     ensures durable { OnOk result (IsSynced D.Disk disk.new number) }
 
     // A crash in the call leaves any byte at the gate, and the others as they were.
@@ -87,7 +88,8 @@ fn create_closed<D: Disk>(disk: &mut D, number: u64) -> Result<(), Fault>
     requires in_range { IsNumber number }
     requires new { CanBeMade D.Disk disk.old number }
 
-    ensures made { OnOk result (IsTrue (D.tells disk.old) → get (D.reads disk.new) number ≡ Some (0 ∷ [])) }
+    ensures made { OnOk result (IsTrue (D.tells disk.old)
+        → get (D.reads disk.new) number ≡ Some (0 ∷ [])) }
     ensures durable { OnOk result (IsSynced D.Disk disk.new number) }
     ensures images { IsTrue (D.tells disk.old)
         → Within D.Disk disk.old disk.new (λ c. IsAbsentOrShort (get c number)) }
