@@ -56,10 +56,10 @@ fn replay(
             Ok(())
         }
         Call::Write { number, at, bytes } => {
-            write_file(alloc, reads, *number, *at, bytes.as_slice())?;
+            write_file(reads, *number, *at, bytes.items())?;
             if let Some(byte) = fill {
-                let filled = vec![in alloc; byte; bytes.as_slice().len()]?;
-                write_file(alloc, image, *number, *at, &filled)?;
+                let filled = vec![in alloc; byte; bytes.items().len()]?;
+                write_file(image, *number, *at, &filled)?;
             }
             Ok(())
         }

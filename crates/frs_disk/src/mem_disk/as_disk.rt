@@ -10,9 +10,10 @@ ghost use Rattle.frs_disk.specs.RecordLaws.{now_counts, now_only, earlier_since,
 ghost use Rattle.frs_disk.specs.Plans.{start_of, files_of, record_of, faults_of, left_by, left_since_by, moment_of, removed_on, Plays};
 
 use super::MemDisk;
-use crate::calls::{Bytes, Call};
+use crate::calls::Call;
 use crate::disk::{Disk, Fault};
-use crate::table::{file_of, numbers_of, overwrite};
+use crate::table::{file_of, numbers_of};
+use frs_types::Sequence;
 use std::alloc::Global;
 
 impl Disk for MemDisk {
@@ -119,14 +120,12 @@ impl Disk for MemDisk {
         ensures cause { HasCause (faults_of self.old) (faults_of self.new) result }
         ensures plays { Plays (Call.Write number at bytes.now) self.old self.new result }
     {
-        let next = overwrite(self.alloc, file_of(&self.files, number), at, bytes)?;
-        let copy = Bytes::of(bytes.to_vec(self.alloc)?);
         let call = Call::Write {
             number,
             at,
-            bytes: copy,
+            bytes: Sequence::of(bytes.to_vec(self.alloc)?),
         };
-        self.change(call, number, next)
+        self.write_over(call, number, at, bytes)
     }
 
     fn sync(&mut self, number: u64) -> Result<(), Fault>

@@ -1,16 +1,17 @@
 // What each call of a disk in memory does: it is noted, and then done unless the plan lets it fail.
 ghost use Rattle.std.specs.Prelude.{◌≡◌, ◌⊎◌, ◌+◌, ℕ, true, length, OnOk, OnErr};
-ghost use Rattle.std.specs.FinMap.{insert, remove};
+ghost use Rattle.std.specs.FinMap.{get, insert, remove};
 ghost use Rattle.frs_disk.specs.Disk.{Image, IsNumber, HasCause, Elapses, Keeps};
 ghost use Rattle.frs_disk.specs.Files.{image_of};
-ghost use Rattle.frs_disk.specs.Calls.{after_call, TakesCall, RemovesMade, CreatesMade, Notes, MayTake};
+ghost use Rattle.frs_disk.specs.Calls.{after_call, after_write, TakesCall, RemovesMade, CreatesMade, Notes, MayTake};
 ghost use Rattle.frs_disk.specs.Faults.{FailsExactly, faults_after};
 ghost use Rattle.frs_disk.specs.Plans.{files_of, record_of, fault_plan_of, left_by, left_since_by, moment_of, removed_on, fails_at, Plays};
 
 use super::MemDisk;
 use crate::calls::{Call, Made};
 use crate::disk::Fault;
-use crate::table::{put_file, remove_file};
+use crate::table::{put_file, remove_file, write_file};
+use frs_types::Sequence;
 
 impl MemDisk {
     // A call that changes no file.
@@ -46,6 +47,36 @@ impl MemDisk {
         let fails = self.fails();
         note(&mut self.calls, &mut self.faults, fails, call)?;
         if put_file(&mut self.files, number, next).is_err() {
+            self.calls.pop();
+            return Err(Fault::Memory);
+        }
+        Ok(())
+    }
+
+    // A call that writes to a file. It costs what is written, and not what is there.
+    pub(super) fn write_over(
+        &mut self,
+        call: Call,
+        number: u64,
+        at: u64,
+        bytes: &[u8],
+    ) -> Result<(), Fault>
+        requires creates { (n : ℕ) → CreatesMade true call n → IsNumber n }
+        requires writes { after_call call (files_of self.old) ≡ after_write number at bytes.now
+            (files_of self.old) (get (files_of self.old) number) }
+        requires removes { (n : ℕ) → RemovesMade true call n → ⊥ }
+        ensures written { OnOk result (files_of self.new ≡ after_write number at bytes.now
+            (files_of self.old) (get (files_of self.old) number)) }
+        ensures files { OnErr result (files_of self.new ≡ files_of self.old) }
+        ensures pending { (n : ℕ) → removed_on self.new n → removed_on self.old n }
+        ensures leaves { MayTake call (files_of self.old) (left_by self.old) (left_by self.new) }
+        ensures time { Elapses moment_of left_since_by left_by self.old self.new }
+        ensures cause { HasCause self.old.faults self.new.faults result }
+        ensures plays { Plays call self.old self.new result }
+    {
+        let fails = self.fails();
+        note(&mut self.calls, &mut self.faults, fails, call)?;
+        if write_file(&mut self.files, number, at, bytes).is_err() {
             self.calls.pop();
             return Err(Fault::Memory);
         }
