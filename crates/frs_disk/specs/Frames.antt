@@ -13,7 +13,8 @@ IsThere g disk number = IsTrue (g.tells disk) → IsSome (get (g.reads disk) num
 
 -- the file isn't there, and no removal of it is pending, as far as the disk tells
 abbrev pub CanBeMade : {D : Type 0} → Ghosts D → D → ℕ → Type 0
-CanBeMade g disk number = (IsTrue (g.tells disk) → get (g.reads disk) number ≡ None) × (IsTrue (g.tells disk) → g.removing disk number → ⊥)
+CanBeMade g disk number = (IsTrue (g.tells disk) → get (g.reads disk) number ≡ None)
+    × (IsTrue (g.tells disk) → g.removing disk number → ⊥)
 
 -- no removal is pending of a number above those of the files that are there
 abbrev pub NoneRemovedAbove : {D : Type 0} → Ghosts D → D → Type 0

@@ -50,7 +50,12 @@ made_after (Err Memory) n = n
 
 -- the counts after this answer
 abbrev pub tally_after : {V : Type 0} → Result V Fault → Tally → Tally
-tally_after result tally = record { failing = tally.failing; made = made_after result tally.made; faults = faults_after result tally.faults }
+tally_after result tally = record {
+  failing = tally.failing;
+  made = made_after result tally.made;
+  faults = faults_after
+      result tally.faults;
+}
 
 -- a tally of calls that fail, before any call
 abbrev pub new_tally : Vec ℕ Global → Tally

@@ -21,7 +21,8 @@ pub trait Files {
 
     /// All bytes of a file, of which there are fewer than 2^32. A name that is not known fails, as a larger file.
     fn read(&mut self, alloc: Global, name: &Name) -> Result<Vec<u8>, Fault>
-        ensures bytes { IfOk result (λ bytes. IsTrue (tells self.old) → file self.old name.now ≡ Some bytes.items) }
+        ensures bytes { IfOk result (λ bytes. IsTrue (tells self.old)
+            → file self.old name.now ≡ Some bytes.items) }
         ensures short { IfOk result (λ bytes. length bytes.items < 2 ^ 32) }
         ensures told { tells self.new ≡ tells self.old }
         ensures kept { (n : List ℕ) → file self.new n ≡ file self.old n }
@@ -41,7 +42,8 @@ pub trait Shelf {
 
     /// The greatest number of a snapshot that it holds a segment of, or 0.
     fn greatest(&mut self) -> Result<u64, Fault>
-        ensures greatest { IfOk result (λ n. IsTrue (tells self.old) → n ≡ greatest_snapshot (holds self.old)) }
+        ensures greatest { IfOk result (λ n. IsTrue (tells self.old)
+            → n ≡ greatest_snapshot (holds self.old)) }
         ensures told { tells self.new ≡ tells self.old }
         ensures kept { holds self.new ≡ holds self.old }
         ensures cause { HasCause (faults self.old) (faults self.new) result };
@@ -49,8 +51,10 @@ pub trait Shelf {
     /// Sets the bytes of one segment of one snapshot. Where it is refused they may be as before, be gone or be any
     /// bytes. All others stay, whatever it answers.
     fn put(&mut self, snapshot: u64, segment: u64, bytes: &[u8]) -> Result<(), Fault>
-        ensures set { OnOk result (IsTrue (tells self.old) → holds self.new ≡ insert (holds self.old) (snapshot, segment) bytes.now) }
-        ensures others { (q : ℕ × ℕ) → q ≢ (snapshot, segment) → get (holds self.new) q ≡ get (holds self.old) q }
+        ensures set { OnOk result (IsTrue (tells self.old)
+            → holds self.new ≡ insert (holds self.old) (snapshot, segment) bytes.now) }
+        ensures others { (q : ℕ × ℕ) → q ≢ (snapshot, segment)
+            → get (holds self.new) q ≡ get (holds self.old) q }
         ensures told { tells self.new ≡ tells self.old }
         ensures cause { HasCause (faults self.old) (faults self.new) result };
 }
@@ -69,8 +73,10 @@ pub trait Sink {
     /// Writes these bytes behind those that are there. Where it is refused, a first part of them may have been
     /// written.
     fn write(&mut self, bytes: &[u8]) -> Result<(), Fault>
-        ensures whole { OnOk result (IsTrue (tells self.old) → written self.new ≡ written self.old ++ bytes.now) }
-        ensures part { IsTrue (tells self.old) → AddsPartOf bytes.now (written self.old) (written self.new) }
+        ensures whole { OnOk result (IsTrue (tells self.old)
+            → written self.new ≡ written self.old ++ bytes.now) }
+        ensures part { IsTrue (tells self.old)
+            → AddsPartOf bytes.now (written self.old) (written self.new) }
         ensures told { tells self.new ≡ tells self.old }
         ensures cause { HasCause (faults self.old) (faults self.new) result };
 }

@@ -18,7 +18,8 @@ pub fn replay_all(
 ) -> Result<Vec<(u64, Vec<u8>)>, AllocError>
     requires { T (is_sorted nat_cmp (plain_files start.now)) }
     ensures rising { IfOk result (λ files. T (is_sorted nat_cmp (plain_files files.items))) }
-    ensures image { IfOk result (λ files. image_of files.items ≡ chosen_image fill (image_of start.now) (image_of start.now) calls.now) }
+    ensures image { IfOk result (λ files. image_of files.items
+        ≡ chosen_image fill (image_of start.now) (image_of start.now) calls.now) }
 {
     let mut reads = copy_files(alloc, start)?;
     let mut image = copy_files(alloc, start)?;
@@ -44,8 +45,10 @@ fn replay(
     requires image_rising { T (is_sorted nat_cmp (plain_files image.old.items)) }
     ensures reads_still { T (is_sorted nat_cmp (plain_files reads.new.items)) }
     ensures image_still { T (is_sorted nat_cmp (plain_files image.new.items)) }
-    ensures reads { OnOk result (image_of reads.new.items ≡ after_call call.now (image_of reads.old.items)) }
-    ensures image { OnOk result (image_of image.new.items ≡ chosen_call fill call.now (image_of reads.old.items) (image_of image.old.items)) }
+    ensures reads { OnOk result (image_of reads.new.items
+        ≡ after_call call.now (image_of reads.old.items)) }
+    ensures image { OnOk result (image_of image.new.items
+        ≡ chosen_call fill call.now (image_of reads.old.items) (image_of image.old.items)) }
 {
     match call {
         Call::Create { number } => {

@@ -8,7 +8,8 @@ use std::alloc::Global;
 use std::test::Fail;
 
 fn empty_disk(alloc: Global) -> Result<MemDisk, NoMemory>
-    ensures { IfOk result (λ disk. (get (⟦<MemDisk as Disk>⟧.reads disk) 1 ≡ None) × (⟦<MemDisk as Disk>⟧.removing disk 1 → ⊥)) }
+    ensures { IfOk result (λ disk. (get (⟦<MemDisk as Disk>⟧.reads disk) 1 ≡ None)
+        × (⟦<MemDisk as Disk>⟧.removing disk 1 → ⊥)) }
 {
     let plan = FaultPlan {
         failing: Vec::new(alloc),

@@ -54,7 +54,10 @@ changes_of [] tx = []
 changes_of (o ∷ active) tx = if o.begin == tx then o.changes else changes_of active tx
 
 abbrev pub with_change : List Open → ℕ → Change StoredValue → List Open
-with_change active tx x = map (λ (o : Open). if o.begin == tx then record o { changes = o.changes ++ x ∷ [] } else o) active
+with_change active tx x = map (λ (o : Open). if o.begin == tx then record o {
+  changes = o.changes
+      ++ x ∷ [];
+} else o) active
 
 abbrev pub without_transaction : List Open → ℕ → List Open
 without_transaction active tx = filter (λ (o : Open). not (o.begin == tx)) active
@@ -73,8 +76,18 @@ after_by s tx (Put id key value) = after_change s tx (Set id key (record { value
 after_by s tx (Remove id key) = after_change s tx (Take id key)
 after_by s tx (Delete id) = after_change s tx (Clear id)
 after_by s tx Begin = record s { active = s.active ++ record { begin = s.next; changes = [] } ∷ []; next = s.next + 1 }
-after_by s tx Commit = record { entries = table_after_all s.entries (changes_of s.active tx); active = without_transaction s.active tx; next = s.next + 1 }
-after_by s tx (Compaction id key value) = record s { entries = table_after s.entries (Set id key (record { value = value; lsn = s.next })); next = s.next + 1 }
+after_by s tx Commit = record {
+  entries = table_after_all s.entries
+      (changes_of s.active tx);
+  active = without_transaction s.active tx;
+  next = s.next + 1;
+}
+after_by s tx
+    (Compaction id key value) = record s {
+      entries = table_after s.entries
+          (Set id key (record { value = value; lsn = s.next }));
+      next = s.next + 1;
+    }
 after_by s tx Mark = record s { active = []; next = s.next + 1 }
 after_by s tx Abandon = record s { active = without_transaction s.active tx; next = s.next + 1 }
 
@@ -92,7 +105,8 @@ lowest s = least s.next (map (λ (e : Place × StoredValue). e.1.lsn) s.entries 
 
 -- the LSN of the entry as the transaction sees it, or 0
 abbrev pub named_at : LogState → ℕ → Place → ℕ
-named_at s tx p = unwrap_or (option_map (λ (h : StoredValue). h.lsn) (at (table_after_all s.entries (changes_of s.active tx)) p)) 0
+named_at s tx p = unwrap_or
+    (option_map (λ (h : StoredValue). h.lsn) (at (table_after_all s.entries (changes_of s.active tx)) p)) 0
 
 -- what a change would lock
 abbrev pub lock_of : Change StoredValue → Lock
@@ -102,7 +116,8 @@ lock_of (Clear id) = OnMap id
 
 -- no other active transaction has a change that conflicts with the lock
 abbrev pub is_alone : LogState → ℕ → Lock → Bool
-is_alone s tx lock = list_all (λ (o : Open). (o.begin == tx) || not (list_any (λ x. do_conflict lock (lock_of x)) o.changes)) s.active
+is_alone s tx lock = list_all
+    (λ (o : Open). (o.begin == tx) || not (list_any (λ x. do_conflict lock (lock_of x)) o.changes)) s.active
 
 -- outside a transaction, or in an active one
 abbrev pub has_tx : LogState → ℕ → Bool
@@ -114,13 +129,16 @@ is_stored (Some h) value lsn = bytes_eq h.value value && (h.lsn == lsn)
 
 -- what each kind asks of the state before it
 abbrev pub fits_by : LogState → ℕ → ℕ → Action → Bool
-fits_by s tx named (Put id key value) = has_tx s tx && is_alone s tx (OnKey id key) && (named == named_at s tx (id, key))
-fits_by s tx named (Remove id key) = has_tx s tx && is_alone s tx (OnKey id key) && (named == named_at s tx (id, key)) && nat_lt 0 named
+fits_by s tx named (Put id key value) = has_tx s tx && is_alone s tx (OnKey id key) &&
+    (named == named_at s tx (id, key))
+fits_by s tx named (Remove id key) = has_tx s tx && is_alone s tx (OnKey id key) &&
+    (named == named_at s tx (id, key)) && nat_lt 0 named
 fits_by s tx named (Delete id) = has_tx s tx && is_alone s tx (OnMap id)
 fits_by s tx named Begin = true
 fits_by s tx named Commit = is_open_tx s.active tx
 fits_by s tx named Abandon = is_open_tx s.active tx
-fits_by s tx named (Compaction id key value) = is_stored (at s.entries (id, key)) value named && is_alone s 0 (OnKey id key)
+fits_by s tx named (Compaction id key value) = is_stored (at s.entries (id, key)) value named && is_alone s 0
+    (OnKey id key)
 fits_by s tx named Mark = true
 
 abbrev pub is_lawful : LogState → Record → Bool

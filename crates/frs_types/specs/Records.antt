@@ -48,7 +48,8 @@ kind_allows n Abandon tx named = nat_lt 0 tx && nat_lt tx n && (named == 0)
 
 -- the record may stand at the LSN n
 abbrev pub is_allowed : ℕ → Record → Bool
-is_allowed n r = kind_allows n r.action r.tx r.named && nat_lt r.named n && nat_lt 0 r.lowest && nat_le r.lowest n && has_words r.action
+is_allowed n r = kind_allows n r.action r.tx r.named && nat_lt r.named n && nat_lt 0 r.lowest && nat_le r.lowest n &&
+    has_words r.action
 
 -- what a record can hold, whether or not it may stand in a log: each number fits its type, and each word its limit
 pub record Fits (r : Record) : Type 0 where

@@ -45,7 +45,8 @@ entry_by n other = None
 -- It is a compaction, or outside a transaction, or a commit record of its transaction stands after it.
 abbrev pub committed : Numbered → List Numbered → Bool
 committed q later =
-    is_compaction q.what.action || (q.what.tx == 0) || list_any (λ (l : Numbered). is_commit l.what.action && (l.what.tx == q.what.tx)) later
+    is_compaction q.what.action || (q.what.tx == 0) || list_any
+    (λ (l : Numbered). is_commit l.what.action && (l.what.tx == q.what.tx)) later
 
 -- the committed records among these, oldest first
 abbrev pub committed_records : List Numbered → List Numbered
@@ -58,7 +59,8 @@ committed_records (q ∷ later) = if committed q later then q ∷ committed_reco
 abbrev pub with_entry : Option Entry → List Numbered → List Entry → List Entry
 with_entry None later newer = newer
 with_entry (Some e) later newer =
-    if list_any (λ (l : Numbered). l.what.named == e.lsn) later || list_any (λ (l : Numbered). is_delete_of e.id l.what.action) later
+    if list_any (λ (l : Numbered). l.what.named == e.lsn) later || list_any
+    (λ (l : Numbered). is_delete_of e.id l.what.action) later
     || list_any (λ (n : Entry). same_place (e.id, e.key) (n.id, n.key)) newer
     then newer
     else e ∷ newer
@@ -81,7 +83,10 @@ maps_of es = fold (λ t (e : Entry). put place_cmp (e.id, e.key) e.value t) [] e
 abbrev pub open_begins : List Numbered → List ℕ
 open_begins [] = []
 open_begins (q ∷ later) =
-    if is_begin q.what.action && not (list_any (λ (l : Numbered). is_ended_by q.lsn l.what.tx l.what.action) later) then q.lsn ∷ open_begins later else open_begins later
+    if is_begin q.what.action && not
+    (list_any
+    (λ (l : Numbered). is_ended_by q.lsn l.what.tx l.what.action) later) then q.lsn ∷ open_begins later else
+    open_begins later
 
 abbrev pub least : ℕ → List ℕ → ℕ
 least n ns = fold min n ns

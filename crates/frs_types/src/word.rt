@@ -99,8 +99,10 @@ impl MapId {
     /// The id of these bytes. `TooLong` where there are more than 64, `Empty` where there are none, and `Memory` where
     /// there was none for it.
     pub fn new(alloc: Global, bytes: &[u8]) -> Result<MapId, WordFault>
-        ensures refused { (fault : Fault) → word_fault 1 ID_LIMIT bytes.now ≡ Some fault → result ≡ Err fault }
-        ensures made { word_fault 1 ID_LIMIT bytes.now ≡ None → MatchResult result (λ id. id ≡ bytes.now) (λ fault. fault ≡ WordFault.Memory) }
+        ensures refused { (fault : Fault) → word_fault 1 ID_LIMIT bytes.now ≡ Some fault
+            → result ≡ Err fault }
+        ensures made { word_fault 1 ID_LIMIT bytes.now ≡ None
+            → MatchResult result (λ id. id ≡ bytes.now) (λ fault. fault ≡ WordFault.Memory) }
     {
         let word = word_of(alloc, bytes, 1, ID_LIMIT)?;
         Ok(MapId { word })
@@ -128,8 +130,10 @@ impl Key {
     /// The key of these bytes. `TooLong` where there are more than 255, `Empty` where there are none, and `Memory`
     /// where there was none for it.
     pub fn new(alloc: Global, bytes: &[u8]) -> Result<Key, WordFault>
-        ensures refused { (fault : Fault) → word_fault 1 KEY_LIMIT bytes.now ≡ Some fault → result ≡ Err fault }
-        ensures made { word_fault 1 KEY_LIMIT bytes.now ≡ None → MatchResult result (λ key. key ≡ bytes.now) (λ fault. fault ≡ WordFault.Memory) }
+        ensures refused { (fault : Fault) → word_fault 1 KEY_LIMIT bytes.now ≡ Some fault
+            → result ≡ Err fault }
+        ensures made { word_fault 1 KEY_LIMIT bytes.now ≡ None
+            → MatchResult result (λ key. key ≡ bytes.now) (λ fault. fault ≡ WordFault.Memory) }
     {
         let word = word_of(alloc, bytes, 1, KEY_LIMIT)?;
         Ok(Key { word })
@@ -157,8 +161,10 @@ impl Value {
     /// The value of these bytes, which may be none. `TooLong` where there are more than 65,535, and `Memory` where there
     /// was none for it.
     pub fn new(alloc: Global, bytes: &[u8]) -> Result<Value, WordFault>
-        ensures refused { (fault : Fault) → word_fault 0 VALUE_LIMIT bytes.now ≡ Some fault → result ≡ Err fault }
-        ensures made { word_fault 0 VALUE_LIMIT bytes.now ≡ None → MatchResult result (λ value. value ≡ bytes.now) (λ fault. fault ≡ WordFault.Memory) }
+        ensures refused { (fault : Fault) → word_fault 0 VALUE_LIMIT bytes.now ≡ Some fault
+            → result ≡ Err fault }
+        ensures made { word_fault 0 VALUE_LIMIT bytes.now ≡ None
+            → MatchResult result (λ value. value ≡ bytes.now) (λ fault. fault ≡ WordFault.Memory) }
     {
         let word = word_of(alloc, bytes, 0, VALUE_LIMIT)?;
         Ok(Value { word })
@@ -183,8 +189,10 @@ impl Value {
 
 // The bytes as a vector of their own, where there are enough and not too many.
 fn word_of(alloc: Global, bytes: &[u8], least: usize, most: usize) -> Result<Vec<u8>, WordFault>
-    ensures refused { (fault : Fault) → word_fault least most bytes.now ≡ Some fault → result ≡ Err fault }
-    ensures made { word_fault least most bytes.now ≡ None → MatchResult result (λ word. word.items ≡ bytes.now) (λ fault. fault ≡ WordFault.Memory) }
+    ensures refused { (fault : Fault) → word_fault least most bytes.now ≡ Some fault
+        → result ≡ Err fault }
+    ensures made { word_fault least most bytes.now ≡ None
+        → MatchResult result (λ word. word.items ≡ bytes.now) (λ fault. fault ≡ WordFault.Memory) }
     ensures long { IfOk result (λ word. least ≤ length word.items) }
     ensures short { IfOk result (λ word. length word.items ≤ most) }
 {

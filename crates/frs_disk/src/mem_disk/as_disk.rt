@@ -95,7 +95,8 @@ impl Disk for MemDisk {
 
     fn read(&mut self, alloc: Global, number: u64, at: u64, room: u64) -> Result<Vec<u8>, Fault>
         requires there { IsSome (get (files_of self.old) number) }
-        ensures bytes { IfOk result (λ bytes. bytes.items ≡ take room (drop at (bytes_at (files_of self.old) number))) }
+        ensures bytes { IfOk result (λ bytes. bytes.items
+            ≡ take room (drop at (bytes_at (files_of self.old) number))) }
         ensures no_more { IfOk result (λ bytes. length bytes.items ≤ room) }
         ensures seen { files_of self.new ≡ files_of self.old }
         ensures pending { (n : ℕ) → removed_on self.new n → removed_on self.old n }
@@ -112,10 +113,13 @@ impl Disk for MemDisk {
     fn write(&mut self, number: u64, at: u64, bytes: &[u8]) -> Result<(), Fault>
         requires there { IsSome (get (files_of self.old) number) }
         requires within { at ≤ length (bytes_at (files_of self.old) number) }
-        ensures written { OnOk result (get (files_of self.new) number ≡ Some (bytes_after_write at bytes.now (bytes_at (files_of self.old) number))) }
-        ensures seen { ChangesFile number (OnFile (Torn at (length bytes.now))) (files_of self.old) (files_of self.new) }
+        ensures written { OnOk result (get (files_of self.new) number
+            ≡ Some (bytes_after_write at bytes.now (bytes_at (files_of self.old) number))) }
+        ensures seen { ChangesFile number (OnFile (Torn at (length bytes.now))) (files_of self.old)
+            (files_of self.new) }
         ensures pending { (n : ℕ) → removed_on self.new n → removed_on self.old n }
-        ensures crash { Follows (ChangesFile number (OnFile (Torn at (length bytes.now)))) (left_by self.old) (left_by self.new) }
+        ensures crash { Follows (ChangesFile number (OnFile (Torn at (length bytes.now))))
+            (left_by self.old) (left_by self.new) }
         ensures time { Elapses moment_of left_since_by left_by self.old self.new }
         ensures cause { HasCause (faults_of self.old) (faults_of self.new) result }
         ensures plays { Plays (Call.Write number at bytes.now) self.old self.new result }
@@ -130,7 +134,8 @@ impl Disk for MemDisk {
 
     fn sync(&mut self, number: u64) -> Result<(), Fault>
         requires there { IsSome (get (files_of self.old) number) }
-        ensures durable { OnOk result ((c : Image) → left_by self.new c → get c number ≡ get (files_of self.new) number) }
+        ensures durable { OnOk result ((c : Image) → left_by self.new c
+            → get c number ≡ get (files_of self.new) number) }
         ensures seen { files_of self.new ≡ files_of self.old }
         ensures pending { (n : ℕ) → removed_on self.new n → removed_on self.old n }
         ensures crash { Keeps (left_by self.old) (left_by self.new) }

@@ -28,8 +28,10 @@ impl MemDisk {
     ) -> Result<MemDisk, NoMemory>
         requires in_range { AllByRecursion IsNumber (map (λ f. f.0) files.items) }
         requires distinct { AreDistinct (map (λ f. f.0) files.items) }
-        ensures reads { IfOk result (λ disk. ⟦<MemDisk as Disk>⟧.reads disk ≡ from_entries (plain_files files.items)) }
-        ensures start { IfOk result (λ disk. start_of disk ≡ from_entries (plain_files files.items)) }
+        ensures reads { IfOk result (λ disk. ⟦<MemDisk as Disk>⟧.reads disk
+            ≡ from_entries (plain_files files.items)) }
+        ensures start { IfOk result (λ disk. start_of disk
+            ≡ from_entries (plain_files files.items)) }
         ensures restarted { IfOk result (IsRestarted ⟦<MemDisk as Disk>⟧) }
         ensures moment { IfOk result (λ disk. ⟦<MemDisk as Disk>⟧.moment disk ≡ 0) }
         ensures faults { IfOk result (λ disk. ⟦<MemDisk as Disk>⟧.faults disk ≡ 0) }
@@ -47,14 +49,22 @@ impl MemDisk {
     /// One of the disks that a crash at this moment may leave, after a restart: nothing is pending, no call is to
     /// fail, the moment and the count of faults are 0, and the record is empty.
     pub fn crash(&self, choice: Choice) -> Result<MemDisk, NoMemory>
-        ensures image { IfOk result (λ disk. ⟦<MemDisk as Disk>⟧.may_leave self.now (⟦<MemDisk as Disk>⟧.reads disk)) }
-        ensures keep { choice ≡ Choice.Keep → IfOk result (λ disk. ⟦<MemDisk as Disk>⟧.reads disk ≡ ⟦<MemDisk as Disk>⟧.reads self.now) }
+        ensures image { IfOk result
+            (λ disk. ⟦<MemDisk as Disk>⟧.may_leave self.now (⟦<MemDisk as Disk>⟧.reads disk)) }
+        ensures keep { choice ≡ Choice.Keep
+            → IfOk result (λ disk. ⟦<MemDisk as Disk>⟧.reads disk
+            ≡ ⟦<MemDisk as Disk>⟧.reads self.now) }
         ensures lose { choice ≡ Choice.Lose
-            → IfOk result (λ disk. ⟦<MemDisk as Disk>⟧.reads disk ≡ chosen_image None (start_of self.now) (start_of self.now) (record_of self.now)) }
+            → IfOk result (λ disk. ⟦<MemDisk as Disk>⟧.reads disk
+            ≡ chosen_image None (start_of self.now) (start_of self.now) (record_of self.now)) }
         ensures lost { choice ≡ Choice.Lose
-            → IfOk result (λ disk. (n : ℕ) → IsAsSynced (start_of self.now) (⟦<MemDisk as Disk>⟧.reads disk) (record_of self.now) n) }
+            → IfOk result (λ disk. (n : ℕ)
+            → IsAsSynced (start_of self.now) (⟦<MemDisk as Disk>⟧.reads disk)
+            (record_of self.now) n) }
         ensures fill { (byte : ℕ) → choice ≡ Choice.Fill byte
-            → IfOk result (λ disk. ⟦<MemDisk as Disk>⟧.reads disk ≡ chosen_image (Some byte) (start_of self.now) (start_of self.now) (record_of self.now)) }
+            → IfOk result (λ disk. ⟦<MemDisk as Disk>⟧.reads disk
+            ≡ chosen_image (Some byte) (start_of self.now) (start_of self.now)
+            (record_of self.now)) }
         ensures restarted { IfOk result (IsRestarted ⟦<MemDisk as Disk>⟧) }
         ensures moment { IfOk result (λ disk. ⟦<MemDisk as Disk>⟧.moment disk ≡ 0) }
         ensures faults { IfOk result (λ disk. ⟦<MemDisk as Disk>⟧.faults disk ≡ 0) }

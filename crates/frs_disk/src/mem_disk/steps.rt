@@ -34,9 +34,11 @@ impl MemDisk {
     // A call that sets the bytes of a file.
     pub(super) fn change(&mut self, call: Call, number: u64, next: Vec<u8>) -> Result<(), Fault>
         requires creates { (n : ℕ) → CreatesMade true call n → IsNumber n }
-        requires sets { after_call call (files_of self.old) ≡ insert (files_of self.old) number next.items }
+        requires sets { after_call call (files_of self.old)
+            ≡ insert (files_of self.old) number next.items }
         requires removes { (n : ℕ) → RemovesMade true call n → ⊥ }
-        ensures changed { OnOk result (files_of self.new ≡ insert (files_of self.old) number next.items) }
+        ensures changed { OnOk result (files_of self.new
+            ≡ insert (files_of self.old) number next.items) }
         ensures files { OnErr result (self.new.files.items ≡ self.old.files.items) }
         ensures pending { (n : ℕ) → removed_on self.new n → removed_on self.old n }
         ensures leaves { MayTake call (files_of self.old) (left_by self.old) (left_by self.new) }

@@ -35,7 +35,12 @@ impl Tally {
 
     // A call has failed.
     pub(super) fn failed(&mut self) -> Fault
-        ensures counted { self.new ≡ record self.old { made = count_after_one self.old.made; faults = count_after_one self.old.faults } }
+        ensures counted { self.new
+            ≡ record self.old {
+              made = count_after_one self.old.made;
+              faults = count_after_one
+                  self.old.faults;
+            } }
         ensures rose { (self.old.faults ≤ self.new.faults) × Rose self.old.faults self.new.faults }
         ensures fault { result ≡ Fault.Failed }
     {

@@ -21,7 +21,8 @@ impl MemFiles {
         failing: Vec<u64>,
     ) -> Result<MemFiles, NoMemory>
         requires { IsTrue (are_short files.items) }
-        ensures files { IfOk result (λ made. (n : List ℕ) → file_named (files_in made) n ≡ file_named files.items n) }
+        ensures files { IfOk result (λ made. (n : List ℕ)
+            → file_named (files_in made) n ≡ file_named files.items n) }
         ensures faults { IfOk result (λ made. (files_tally made).faults ≡ 0) }
         ensures tally { IfOk result (λ made. files_tally made ≡ new_tally failing) }
     {
@@ -41,11 +42,16 @@ impl Files for MemFiles {
     ghost faults = { λ m. (files_tally m).faults };
 
     fn read(&mut self, alloc: Global, name: &Name) -> Result<Vec<u8>, Fault>
-        ensures bytes { IfOk result (λ bytes. file_named (files_in self.old) name.now ≡ Some bytes.items) }
+        ensures bytes { IfOk result (λ bytes. file_named (files_in self.old) name.now
+            ≡ Some bytes.items) }
         ensures short { IfOk result (λ bytes. length bytes.items < 2 ^ 32) }
-        ensures kept { (n : List ℕ) → file_named (files_in self.new) n ≡ file_named (files_in self.old) n }
-        ensures cause { HasCause (files_tally self.old).faults (files_tally self.new).faults result }
-        ensures planned { FailsExactly (next_fails (files_tally self.old) || is_none (file_named (files_in self.old) name.now)) result }
+        ensures kept { (n : List ℕ)
+            → file_named (files_in self.new) n ≡ file_named (files_in self.old) n }
+        ensures cause { HasCause (files_tally self.old).faults
+            (files_tally self.new).faults result }
+        ensures planned { FailsExactly
+            (next_fails (files_tally self.old) || is_none
+            (file_named (files_in self.old) name.now)) result }
         ensures counted { files_tally self.new ≡ tally_after result (files_tally self.old) }
     {
         if self.tally.next_fails() {
@@ -62,7 +68,8 @@ impl Files for MemFiles {
 
 // The bytes of the first file with a name.
 fn find_named<'a>(files: &'a [(Name, Vec<u8>)], name: &Name) -> Option<&'a [u8]>
-    ensures { MatchOption result (file_named files.now name.now ≡ None) (λ bytes. file_named files.now name.now ≡ Some bytes.now) }
+    ensures { MatchOption result (file_named files.now name.now
+        ≡ None) (λ bytes. file_named files.now name.now ≡ Some bytes.now) }
 {
     let mut rest = files;
     while let [file, after @ ..] = rest {

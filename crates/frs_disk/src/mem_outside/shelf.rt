@@ -50,7 +50,8 @@ impl Shelf for MemShelf {
     fn greatest(&mut self) -> Result<u64, Fault>
         ensures greatest { IfOk result (λ n. n ≡ greatest_snapshot (held_on self.old)) }
         ensures kept { held_on self.new ≡ held_on self.old }
-        ensures cause { HasCause (shelf_tally self.old).faults (shelf_tally self.new).faults result }
+        ensures cause { HasCause (shelf_tally self.old).faults
+            (shelf_tally self.new).faults result }
         ensures planned { FailsExactly (next_fails (shelf_tally self.old)) result }
         ensures counted { shelf_tally self.new ≡ tally_after result (shelf_tally self.old) }
     {
@@ -62,9 +63,12 @@ impl Shelf for MemShelf {
     }
 
     fn put(&mut self, snapshot: u64, segment: u64, bytes: &[u8]) -> Result<(), Fault>
-        ensures set { OnOk result (held_on self.new ≡ insert (held_on self.old) (snapshot, segment) bytes.now) }
-        ensures others { (q : ℕ × ℕ) → q ≢ (snapshot, segment) → get (held_on self.new) q ≡ get (held_on self.old) q }
-        ensures cause { HasCause (shelf_tally self.old).faults (shelf_tally self.new).faults result }
+        ensures set { OnOk result (held_on self.new
+            ≡ insert (held_on self.old) (snapshot, segment) bytes.now) }
+        ensures others { (q : ℕ × ℕ) → q ≢ (snapshot, segment)
+            → get (held_on self.new) q ≡ get (held_on self.old) q }
+        ensures cause { HasCause (shelf_tally self.old).faults
+            (shelf_tally self.new).faults result }
         ensures refused { OnErr result (held_on self.new ≡ held_on self.old) }
         ensures planned { FailsExactly (next_fails (shelf_tally self.old)) result }
         ensures counted { shelf_tally self.new ≡ tally_after result (shelf_tally self.old) }
@@ -86,7 +90,8 @@ fn put_segment(
     segment: u64,
     bytes: Vec<u8>,
 ) -> Result<(), AllocError>
-    ensures ok { OnOk result (shelved held.new.items ≡ put shelf_cmp (snapshot, segment) bytes.items (shelved held.old.items)) }
+    ensures ok { OnOk result (shelved held.new.items
+        ≡ put shelf_cmp (snapshot, segment) bytes.items (shelved held.old.items)) }
     ensures err { OnErr result (held.new.items ≡ held.old.items) }
 {
     match place_of(held, snapshot, segment) {
@@ -102,8 +107,13 @@ fn put_segment(
 fn place_of(held: &[(u64, u64, Vec<u8>)], snapshot: u64, segment: u64) -> Result<usize, usize>
     ensures there { IfOk result (λ at. at < length held.now) }
     ensures puts { MatchResult result
-        (λ at. (bytes : List ℕ) → put shelf_cmp (snapshot, segment) bytes (shelved held.now) ≡ set (shelved held.now) at ((snapshot, segment), bytes))
-        (λ at. (at ≤ length held.now) × ((bytes : List ℕ) → put shelf_cmp (snapshot, segment) bytes (shelved held.now) ≡ insert_at (shelved held.now) at ((snapshot, segment), bytes))) }
+        (λ at. (bytes : List ℕ)
+        → put shelf_cmp (snapshot, segment) bytes (shelved held.now)
+        ≡ set (shelved held.now) at ((snapshot, segment), bytes))
+        (λ at. (at ≤ length held.now)
+        × ((bytes : List ℕ)
+        → put shelf_cmp (snapshot, segment) bytes (shelved held.now)
+        ≡ insert_at (shelved held.now) at ((snapshot, segment), bytes))) }
 {
     for (at, entry) in held.iter().enumerate() {
         match snapshot.cmp(&entry.0).then(segment.cmp(&entry.1)) {
