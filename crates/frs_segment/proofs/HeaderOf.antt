@@ -1,23 +1,16 @@
 -- What a header that is read tells, and that a file that begins with a header is read so.
-use Rattle.std.proofs.Common.{◌&&◌, ◌≡◌, inl, inr, ℕ, ◌+◌, ◌^◌, ◌<◌, ◌≤◌, true, false, not, List, [], ◌∷◌, ◌++◌, length, get_or, take, drop, Ok, Err, refl, sym, ap, subst, ◌∙◌, append_assoc, arith, IsTrue}
+use Rattle.std.proofs.Common.{◌≡◌, ℕ, ◌^◌, ◌<◌, ◌≤◌, false, not, List, ◌∷◌, ◌++◌, length, take, drop, Ok, sym, ap, ◌∙◌, arith}
 use Rattle.std.specs.Prelude.{slice_index, slice_range, codes}
-use Rattle.std.specs.List.{flat_map}
 use Rattle.std.specs.Str.{bytes_eq}
-use Rattle.std.proofs.Math.Dec.{ltb, leb, eqb}
+use Rattle.std.proofs.Math.Dec.{leb, eqb}
 use Rattle.std.specs.Int.{w64, to_be_bytes}
-use Rattle.std.proofs.lemmas.Bool.{lt-ltb, leb-true, leb-false, le-leb, lt-leb, eqb-true, eqb-false, eq-eqb, ne_eqb, and_parts, and_from, not-false, not_from_true, not_from_false}
+use Rattle.std.proofs.lemmas.Bool.{leb-true, leb-false, le-leb, lt-leb, eqb-true, eqb-false, eq-eqb, ne_eqb, and_parts, and_from, not-false, not_from_true}
 use Rattle.std.proofs.lemmas.Slice.Eq.{bytes_eq-Decides}
-use Rattle.std.proofs.lemmas.List.{drop_at, drop-drop, drop_more, append-nil, length-append, length-drop}
-use Rattle.std.proofs.lemmas.Grind.{flat_map-append}
+use Rattle.std.proofs.lemmas.List.{drop_more}
 use Rattle.std.proofs.lemmas.Nat.{from_be_bytes-to_be_bytes_8}
-use Rattle.frs_types.specs.declared.record.Record.{Record}
-use Rattle.frs_segment.specs.declared.layout.ChunkPlace.{ChunkPlace}
-use Rattle.frs_segment.specs.declared.layout.Segment.{Segment}
-use Rattle.frs_segment.specs.declared.fault.ScanFault.{ScanFault}
-use Rattle.frs_segment.specs.declared.fault.ScanFault.TheVariants.{HalfMade, BadHeader, BadChunk, NumberLimit, Disk, Memory}
 use Rattle.frs_segment.specs.Front.{header}
-use Rattle.frs_segment.specs.Segments.{File, WholeSegment, body, chunk_bytes, chunks_bytes, segment_spelling, end_of, is_chunk, are_chunks, is_open_file}
-use Rattle.frs_segment.specs.Scanning.{field_at, header_of, chunk_place, places_from, RefusesChunk, IsRefused, TellsChunk, TellsFile}
+use Rattle.frs_segment.specs.Segments.{File, is_open_file}
+use Rattle.frs_segment.specs.Scanning.{field_at, header_of}
 use Rattle.frs_frame.proofs.Takes.{IsBytes}
 use Rattle.frs_segment.proofs.IsChunk.{cut, passed, ok, ok_is, number_back64}
 

@@ -1,9 +1,9 @@
 -- The head that is read stands there, and a chunk that stands there is read.
 use Rattle.std.proofs.Common.{◌≡◌, inl, inr, ℕ, ◌+◌, ◌^◌, ◌<◌, ◌≤◌, Bool, true, false, ◌&&◌, not, cond, List, ◌∷◌, ◌++◌, length, get_or, take, drop, Result, Ok, Err, refl, sym, ap, subst, ◌∙◌, take-append-drop, arith, IsTrue}
 use Rattle.std.proofs.Math.Dec.{ltb, leb, eqb}
-use Rattle.std.specs.Int.{Width, w32, w64, byte_len, to_be_bytes}
+use Rattle.std.specs.Int.{w32, w64, to_be_bytes}
 use Rattle.std.proofs.lemmas.Bool.{cases_lt, ltb-false, le-ltb, leb-true, leb-false, le-leb, lt-leb, eqb-true, eq-eqb, and_parts, and_from, not-false, not_from_true}
-use Rattle.std.proofs.lemmas.List.{take_at, drop-drop, drop_more, length-append, length-take, length-drop, get_or-drop, get_or-take, get_or_past}
+use Rattle.std.proofs.lemmas.List.{take_at, drop-drop, drop_more, length-append, length-take, length-drop, get_or-take, get_or_past}
 use Rattle.std.proofs.lemmas.Nat.{be_bytes_4, be_bytes_8, from_be_bytes-to_be_bytes_4, from_be_bytes-to_be_bytes_8}
 use Rattle.frs_types.specs.declared.record.Record.{Record}
 use Rattle.frs_types.specs.Records.{are_allowed_from}

@@ -1,22 +1,13 @@
 -- Which faults bytes are refused with.
-use Rattle.std.proofs.Common.{◌≡◌, inl, inr, ℕ, ◌+◌, ◌^◌, ◌≤◌, Bool, true, false, ◌&&◌, not, cond, List, [], ◌∷◌, ◌++◌, length, take, drop, IsTrue, Result, Ok, Err, refl, sym, ap, subst, ◌∙◌, append_assoc, take-append-drop, arith, IfOk, Vec, Global}
-use Rattle.std.specs.Prelude.{slice_index, IfErr}
+use Rattle.std.proofs.Common.{◌≡◌, inl, inr, ℕ, ◌+◌, ◌^◌, Bool, true, false, ◌&&◌, not, cond, List, length, IsTrue, Result, Ok, Err, refl, sym, ap, subst, ◌∙◌}
 use Rattle.std.specs.Int.{w32, w64}
 use Rattle.std.proofs.Math.Dec.{ltb, leb, eqb}
-use Rattle.std.proofs.lemmas.Bool.{ltb-true, leb-true, and_parts}
-use Rattle.std.proofs.lemmas.List.{take_at, drop-drop, drop_more, length-append}
-use Rattle.frs_types.specs.declared.record.Record.{Record}
-use Rattle.frs_disk.specs.Disk.{IsNumber}
 use Rattle.frs_segment.specs.declared.layout.ChunkPlace.{ChunkPlace}
-use Rattle.frs_segment.specs.declared.layout.Segment.{Segment}
 use Rattle.frs_segment.specs.declared.fault.ScanFault.{ScanFault}
 use Rattle.frs_segment.specs.declared.fault.ScanFault.TheVariants.{HalfMade, BadHeader, BadChunk, NumberLimit, Disk, Memory}
-use Rattle.frs_segment.specs.Segments.{File, WholeSegment, IsSegment, body, chunk_bytes, segment_spelling, end_of, is_open_file}
-use Rattle.frs_segment.specs.Faults.{HasScanCause, GivesScanned}
-use Rattle.frs_segment.specs.Scanning.{field_at, header_of, head_of, chunk_place, places_of_segment, FillBody, IsChunk, RefusesChunk, IsRefused, RefusesRecords, RefusesPlace, TellsFile}
-use Rattle.frs_frame.proofs.Takes.{IsBytes, IsBytes-drop}
-use Rattle.frs_segment.proofs.IsChunk.{ok, chunk_told, head_of_chunk, chunk_passes}
-use Rattle.frs_segment.proofs.OneSegment.{one_segment, not_both, one_fault, one_chunk}
+use Rattle.frs_segment.specs.Segments.{File, segment_spelling, end_of, is_open_file}
+use Rattle.frs_segment.specs.Scanning.{field_at, header_of, head_of, RefusesChunk, IsRefused}
+use Rattle.frs_segment.proofs.IsChunk.{ok}
 
 abbrev is_of_bytes : ScanFault → Bool
 is_of_bytes HalfMade = true

@@ -1,14 +1,12 @@
 -- The files of a store say one thing: no two lists of its segments spell a log.
-use Rattle.std.proofs.Common.{◌≡◌, ◌⊎◌, inl, inr, ℕ, List, [], ◌∷◌, ◌++◌, Option, Some, None, refl, sym, ap, subst, ◌∙◌, arith, IsTrue}
-use Rattle.std.specs.Prelude.{unwrap_or, option_map}
-use Rattle.std.specs.List.{AllZip, last_or, list_all}
+use Rattle.std.proofs.Common.{◌≡◌, ◌⊎◌, inl, inr, ℕ, List, [], ◌∷◌, ◌++◌, refl, sym, ap, subst, ◌∙◌, arith, IsTrue}
+use Rattle.std.specs.List.{AllZip, list_all}
 use Rattle.std.proofs.Math.Dec.{ltb, leb}
 use Rattle.std.proofs.lemmas.Bool.{ltb-true, leb-true, and_parts}
 use Rattle.std.proofs.lemmas.List.Folds.{list_all-append}
-use Rattle.std.proofs.lemmas.Grind.{flat_map-append}
 use Rattle.frs_types.specs.declared.record.Record.{Record}
 use Rattle.frs_types.specs.Records.{Log, named_lowest, from_lowest}
-use Rattle.frs_segment.specs.Segments.{File, WholeSegment, IsSegment, FileList, records_of, all_records, first_alone_reaches, first_of, are_enough, SpellsBy, Spells}
+use Rattle.frs_segment.specs.Segments.{File, WholeSegment, IsSegment, FileList, all_records, first_alone_reaches, first_of, are_enough, SpellsBy, Spells}
 use Rattle.frs_types.proofs.Allowed.{lowest_behind}
 use Rattle.frs_segment.proofs.SpellsBy.{all_records-append, enough_reaches}
 use Rattle.frs_segment.proofs.OneSegment.{one_segment}
