@@ -2,6 +2,7 @@
 use Rattle.std.specs.Prelude.{◌≡◌, ℕ, List, [], ◌∷◌, Option, Some, None, Result, Ok, Err, find, if◌then◌else◌, codes, decimal}
 use Rattle.std.specs.List.{range_with_len}
 use Rattle.std.specs.Str.{bytes_eq}
+use Rattle.frs_text.specs.declared.plan.TheConstants.{CLIENT_LIMIT, DEMO_LIMIT}
 use Rattle.frs_text.specs.declared.plan.Plan.{Plan}
 use Rattle.frs_text.specs.declared.plan.Job.{Job}
 use Rattle.frs_text.specs.declared.plan.Job.TheVariants.{Run, Plain}
@@ -27,11 +28,11 @@ demo_with clients (Some count) ws = demo_end clients count ws
 abbrev pub demo_count : Option ℕ → List (List ℕ) → Result Job ℕ
 demo_count None ws = Err 3
 demo_count (Some clients) [] = Err 4
-demo_count (Some clients) (count ∷ ws) = demo_with clients (number_up_to 3000 count) ws
+demo_count (Some clients) (count ∷ ws) = demo_with clients (number_up_to DEMO_LIMIT count) ws
 
 abbrev pub demo_of : List (List ℕ) → Result Job ℕ
 demo_of [] = Err 3
-demo_of (clients ∷ ws) = demo_count (number_up_to 64 clients) ws
+demo_of (clients ∷ ws) = demo_count (number_up_to CLIENT_LIMIT clients) ws
 
 -- `run FILE..`, with at least one file
 abbrev pub run_of : List (List ℕ) → Result Job ℕ
@@ -68,10 +69,10 @@ plan_of [] = Err 1
 plan_of (store ∷ ws) = on_store store (job_of ws)
 
 -- the answer is what the words read as, unless there was no memory
-abbrev pub Refused : {X : Type 0} → WordsFault → Result X ℕ → Type 0
-Refused (Usage word) read = read ≡ Err word
-Refused Memory read = Unit {0}
+abbrev pub IsRefusedAs : {X : Type 0} → WordsFault → Result X ℕ → Type 0
+IsRefusedAs (Usage word) read = read ≡ Err word
+IsRefusedAs Memory read = Unit {0}
 
 abbrev pub ReadsAs : {X : Type 0} → Result X WordsFault → Result X ℕ → Type 0
 ReadsAs (Ok found) read = read ≡ Ok found
-ReadsAs (Err fault) read = Refused fault read
+ReadsAs (Err fault) read = IsRefusedAs fault read

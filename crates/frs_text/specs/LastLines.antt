@@ -14,7 +14,8 @@ script_line script number why = line (codes "script" ∷ decimal script ∷ code
 
 -- a place in a segment, and what is wrong there
 abbrev pub segment_line : ℕ → ℕ → Text → Text
-segment_line segment offset what = line (codes "segment" ∷ decimal segment ∷ codes "offset" ∷ decimal offset ∷ what ∷ [])
+segment_line segment offset what =
+    line (codes "segment" ∷ decimal segment ∷ codes "offset" ∷ decimal offset ∷ what ∷ [])
 
 abbrev pub last_line : LastLine → Text
 last_line Closed = line (codes "closed" ∷ [])
@@ -30,4 +31,5 @@ last_line (ClientLimit clients) = line (codes "limit" ∷ codes "clients" ∷ de
 last_line Later = line (codes "later" ∷ [])
 last_line (WrongHeader segment offset) = segment_line segment offset (codes "header")
 last_line (WrongChunk segment offset) = segment_line segment offset (codes "chunk")
-last_line (MissingRecord expected found) = line (codes "gap" ∷ codes "expected" ∷ decimal expected ∷ codes "found" ∷ decimal found ∷ [])
+last_line (MissingRecord expected found) =
+    line (codes "gap" ∷ codes "expected" ∷ decimal expected ∷ codes "found" ∷ decimal found ∷ [])

@@ -1,9 +1,9 @@
 pub mod CommandLine
 pub mod LastLines
-pub mod Legible
-pub mod Lines
-pub mod Reading
+pub mod LineReadings
 pub mod Rows
 pub mod Scripts
 pub mod Sinks
+pub mod SpacedWords
 pub mod Text
+pub mod Transcripts

@@ -7,6 +7,8 @@ use Rattle.frs_history.specs.declared.command.Command.{Command}
 use Rattle.frs_history.specs.declared.command.Command.TheVariants as command
 use Rattle.frs_history.specs.declared.command.Line.{Line}
 use Rattle.frs_history.specs.Scripts.{may_stand, inside_after}
+use Rattle.frs_types.specs.declared.limits.TheConstants.{ID_LIMIT, KEY_LIMIT, VALUE_LIMIT}
+use Rattle.frs_text.specs.declared.script_builder.TheConstants.{MOST_CHANGES}
 use Rattle.frs_text.specs.declared.script_fault.ScriptFault.{ScriptFault}
 use Rattle.frs_text.specs.declared.script_fault.ScriptFault.TheVariants.{BadLine, TooLong, TooMany, Memory}
 
@@ -25,8 +27,8 @@ abbrev pub words_of : List ℕ → List (List ℕ)
 words_of line = filter is_filled (slice_split is_blank line)
 
 -- the bytes that a command is written in, and the blanks
-abbrev pub is_allowed : ℕ → Bool
-is_allowed b = is_blank b || (nat_le 0x21 b && nat_le b 0x7E)
+abbrev pub is_script_byte : ℕ → Bool
+is_script_byte b = is_blank b || (nat_le 0x21 b && nat_le b 0x7E)
 
 -- ---- escapes
 
@@ -41,25 +43,25 @@ abbrev pub with_byte : ℕ → Option (List ℕ) → Option (List ℕ)
 with_byte b bs = option_map (λ rest. b ∷ rest) bs
 
 -- The bytes for which a word stands. `%` and two digits stand for one byte, every other byte for itself.
-abbrev pub unescaped : List ℕ → Option (List ℕ)
-unescaped [] = Some []
-unescaped (b ∷ []) = if b == 0x25 then None else Some (b ∷ [])
-unescaped (b ∷ c ∷ []) = if b == 0x25 then None else with_byte b (unescaped (c ∷ []))
-unescaped (b ∷ c ∷ d ∷ rest) =
+abbrev pub escape_meaning : List ℕ → Option (List ℕ)
+escape_meaning [] = Some []
+escape_meaning (b ∷ []) = if b == 0x25 then None else Some (b ∷ [])
+escape_meaning (b ∷ c ∷ []) = if b == 0x25 then None else with_byte b (escape_meaning (c ∷ []))
+escape_meaning (b ∷ c ∷ d ∷ rest) =
     if b == 0x25
-    then (if is_hex c && is_hex d then with_byte (16 * hex_value c + hex_value d) (unescaped rest) else None)
-    else with_byte b (unescaped (c ∷ d ∷ rest))
+    then (if is_hex c && is_hex d then with_byte (16 * hex_value c + hex_value d) (escape_meaning rest) else None)
+    else with_byte b (escape_meaning (c ∷ d ∷ rest))
 
 -- and `%` alone stands for no bytes
-abbrev pub meant : List ℕ → Option (List ℕ)
-meant word = if bytes_eq word (0x25 ∷ []) then Some [] else unescaped word
+abbrev pub word_meaning : List ℕ → Option (List ℕ)
+word_meaning word = if bytes_eq word (0x25 ∷ []) then Some [] else escape_meaning word
 
 abbrev pub if_filled : List ℕ → Option (List ℕ)
 if_filled bytes = if is_filled bytes then Some bytes else None
 
 -- an id or a key has at least one byte
-abbrev pub named : List ℕ → Option (List ℕ)
-named word = option_and_then if_filled (meant word)
+abbrev pub name_meaning : List ℕ → Option (List ℕ)
+name_meaning word = option_and_then if_filled (word_meaning word)
 
 -- ---- commands
 
@@ -83,24 +85,27 @@ begin_of (mode ∷ []) = if bytes_eq mode (codes "async") then Some (command.Beg
 begin_of other = None
 
 -- the command, where no words follow
-abbrev pub alone : Command → List (List ℕ) → Option Command
-alone x [] = Some x
-alone x (w ∷ ws) = None
+abbrev pub lone_command : Command → List (List ℕ) → Option Command
+lone_command x [] = Some x
+lone_command x (w ∷ ws) = None
 
 -- ID KEY VALUE
 abbrev pub put_words : List ℕ × List ℕ × List ℕ → Option Command
-put_words w = option_and_then (λ id. option_and_then (λ key. option_map (λ value. command.Put id key value) (meant w.2)) (named w.1)) (named w.0)
+put_words w =
+    option_and_then
+    (λ id. option_and_then (λ key. option_map (λ value. command.Put id key value) (word_meaning w.2)) (name_meaning w.1))
+    (name_meaning w.0)
 
 -- ID KEY
 abbrev pub remove_words : List ℕ × List ℕ → Option Command
-remove_words w = option_and_then (λ id. option_map (λ key. command.Remove id key) (named w.1)) (named w.0)
+remove_words w = option_and_then (λ id. option_map (λ key. command.Remove id key) (name_meaning w.1)) (name_meaning w.0)
 
 abbrev pub get_words : List ℕ × List ℕ → Option Command
-get_words w = option_and_then (λ id. option_map (λ key. command.Get id key) (named w.1)) (named w.0)
+get_words w = option_and_then (λ id. option_map (λ key. command.Get id key) (name_meaning w.1)) (name_meaning w.0)
 
 -- ID
 abbrev pub delete_word : List ℕ → Option Command
-delete_word w = option_map (λ id. command.Delete id) (named w)
+delete_word w = option_map (λ id. command.Delete id) (name_meaning w)
 
 -- the command with this name, of the words that follow the name
 abbrev pub command_of : List ℕ → List (List ℕ) → Option Command
@@ -110,34 +115,35 @@ command_of name words =
     else (if bytes_eq name (codes "remove") then option_and_then remove_words (two words)
     else (if bytes_eq name (codes "delete") then option_and_then delete_word (one words)
     else (if bytes_eq name (codes "get") then option_and_then get_words (two words)
-    else (if bytes_eq name (codes "commit") then alone command.Commit words
-    else (if bytes_eq name (codes "snapshot") then alone command.Snapshot words
+    else (if bytes_eq name (codes "commit") then lone_command command.Commit words
+    else (if bytes_eq name (codes "snapshot") then lone_command command.Snapshot words
     else None))))))
 
 -- ---- one line
 
 -- a line says nothing, or a command, or something that is none
-pub data Said : Type 0 where
-  Nothing : Said
-  Says : (x : Command) → Said
-  Wrong : Said
+pub data LineMeaning : Type 0 where
+  Nothing : LineMeaning
+  Says : (x : Command) → LineMeaning
+  Wrong : LineMeaning
 
-abbrev pub says : Option Command → Said
-says None = Wrong
-says (Some x) = Says x
+abbrev pub meaning_of_command : Option Command → LineMeaning
+meaning_of_command None = Wrong
+meaning_of_command (Some x) = Says x
 
 -- a comment begins with `#`
 abbrev pub is_comment : List ℕ → Bool
 is_comment [] = false
 is_comment (b ∷ bs) = b == 35
 
-abbrev pub said_by : Bool → List (List ℕ) → Said
-said_by allowed [] = Nothing
-said_by allowed (name ∷ words) = if is_comment name then Nothing else (if allowed then says (command_of name words) else Wrong)
+abbrev pub meaning_of_words : Bool → List (List ℕ) → LineMeaning
+meaning_of_words allowed [] = Nothing
+meaning_of_words allowed (name ∷ words) =
+    if is_comment name then Nothing else (if allowed then meaning_of_command (command_of name words) else Wrong)
 
 -- what a line says, whose bytes all have to be allowed unless it is a comment
-abbrev pub said : List ℕ → Said
-said line = said_by (list_all is_allowed line) (words_of line)
+abbrev pub meaning_of_line : List ℕ → LineMeaning
+meaning_of_line line = meaning_of_words (list_all is_script_byte line) (words_of line)
 
 -- ---- the lines before
 
@@ -161,7 +167,8 @@ is_begin_command other = false
 
 -- how many changes stand behind the last `begin`
 abbrev pub count_of_changes : List Line → ℕ
-count_of_changes before = fold (λ n (l : Line). if is_begin_command l.command then 0 else (if is_change l.command then n + 1 else n)) 0 before
+count_of_changes before =
+    fold (λ n (l : Line). if is_begin_command l.command then 0 else (if is_change l.command then n + 1 else n)) 0 before
 
 abbrev pub snapshots_of : List Line → ℕ
 snapshots_of before = count_by (λ (l : Line). is_snapshot l.command) before
@@ -169,58 +176,60 @@ snapshots_of before = count_by (λ (l : Line). is_snapshot l.command) before
 -- ---- a file
 
 -- how many commands a file may have, and how many snapshots
-pub record Allowed : Type 0 where
+pub record ScriptLimits : Type 0 where
   pub commands : ℕ
   pub snapshots : ℕ
 
-abbrev pub up_to : ℕ → ℕ → Allowed
+abbrev pub up_to : ℕ → ℕ → ScriptLimits
 up_to commands snapshots = record { commands = commands; snapshots = snapshots }
 
 -- an id, key or value is above its limit
 abbrev pub is_long : Command → Bool
-is_long (command.Put id key value) = nat_lt 64 (length id) || nat_lt 255 (length key) || nat_lt 65535 (length value)
-is_long (command.Remove id key) = nat_lt 64 (length id) || nat_lt 255 (length key)
-is_long (command.Get id key) = nat_lt 64 (length id) || nat_lt 255 (length key)
-is_long (command.Delete id) = nat_lt 64 (length id)
+is_long (command.Put id key value) =
+    nat_lt ID_LIMIT (length id) || nat_lt KEY_LIMIT (length key) || nat_lt VALUE_LIMIT (length value)
+is_long (command.Remove id key) = nat_lt ID_LIMIT (length id) || nat_lt KEY_LIMIT (length key)
+is_long (command.Get id key) = nat_lt ID_LIMIT (length id) || nat_lt KEY_LIMIT (length key)
+is_long (command.Delete id) = nat_lt ID_LIMIT (length id)
 is_long other = false
 
 -- the command is one too many: of all, of the snapshots, or of the changes of its transaction
-abbrev pub is_past : Allowed → List Line → Command → Bool
+abbrev pub is_past : ScriptLimits → List Line → Command → Bool
 is_past allowed before x =
     nat_le allowed.commands (length before)
     || (is_snapshot x && nat_le allowed.snapshots (snapshots_of before))
-    || (is_change x && is_inside before && nat_le 65536 (count_of_changes before))
+    || (is_change x && is_inside before && nat_le MOST_CHANGES (count_of_changes before))
 
 -- why line n with this command is refused behind these lines
-abbrev pub refusal : Allowed → List Line → ℕ → Command → Option ScriptFault
+abbrev pub refusal : ScriptLimits → List Line → ℕ → Command → Option ScriptFault
 refusal allowed before n x =
     if may_stand (is_inside before) x
     then (if is_long x then Some (TooLong n) else (if is_past allowed before x then Some (TooMany n) else None))
     else Some (BadLine n)
 
-abbrev pub fault_of : Allowed → List Line → ℕ → Said → Option ScriptFault
+abbrev pub fault_of : ScriptLimits → List Line → ℕ → LineMeaning → Option ScriptFault
 fault_of allowed before n Nothing = None
 fault_of allowed before n Wrong = Some (BadLine n)
 fault_of allowed before n (Says x) = refusal allowed before n x
 
 -- the line with its number, where it says a command
-abbrev pub line_of : ℕ → Said → List Line
-line_of n Nothing = []
-line_of n Wrong = []
-line_of n (Says x) = record { number = n; command = x } ∷ []
+abbrev pub numbered_line : ℕ → LineMeaning → List Line
+numbered_line n Nothing = []
+numbered_line n Wrong = []
+numbered_line n (Says x) = record { number = n; command = x } ∷ []
 
 abbrev pub with_fault_unless : {X : Type 0} → Option ScriptFault → Result X ScriptFault → Result X ScriptFault
 with_fault_unless None result = result
 with_fault_unless (Some fault) result = Err fault
 
 -- these lines, which begin with number n, read behind those before: the first that is refused decides
-abbrev pub script_after : Allowed → List Line → ℕ → List (List ℕ) → Result (List Line) ScriptFault
+abbrev pub script_after : ScriptLimits → List Line → ℕ → List (List ℕ) → Result (List Line) ScriptFault
 script_after allowed before n [] = Ok before
 script_after allowed before n (bytes ∷ rest) =
-    with_fault_unless (fault_of allowed before n (said bytes)) (script_after allowed (before ++ line_of n (said bytes)) (n + 1) rest)
+    with_fault_unless (fault_of allowed before n (meaning_of_line bytes))
+    (script_after allowed (before ++ numbered_line n (meaning_of_line bytes)) (n + 1) rest)
 
 -- the script of a file's bytes, or the first line that is refused
-abbrev pub script_of : Allowed → List ℕ → Result (List Line) ScriptFault
+abbrev pub script_of : ScriptLimits → List ℕ → Result (List Line) ScriptFault
 script_of allowed bytes = script_after allowed [] 1 (lines bytes)
 
 -- ---- answers

@@ -29,7 +29,8 @@ abbrev pub is_plain : ℕ → Bool
 is_plain byte = nat_le 0x21 byte && nat_le byte 0x7E && not (byte == 0x25)
 
 abbrev pub shown_byte : ℕ → Text
-shown_byte byte = if is_plain byte then byte ∷ [] else 0x25 ∷ digit_glyph true (byte / 16) ∷ digit_glyph true (byte % 16) ∷ []
+shown_byte byte =
+    if is_plain byte then byte ∷ [] else 0x25 ∷ digit_glyph true (byte / 16) ∷ digit_glyph true (byte % 16) ∷ []
 
 -- no bytes are shown as `%`
 abbrev pub word : List ℕ → Text
@@ -66,23 +67,28 @@ reply_words (reply.Snapshot number) = codes "snapshot" ∷ decimal number ∷ []
 -- the words of the command at that line of the client's script
 abbrev pub words_at : Scripts → ℕ → ℕ → List Text
 words_at scripts c number =
-    unwrap_or (option_map (λ (l : Line). command_words l.command) (find (λ (l : Line). l.number == number) (slice_index_or ([] ∷ scripts) c []))) []
+    let lines = slice_index_or ([] ∷ scripts) c [] in
+    unwrap_or (option_map (λ (l : Line). command_words l.command) (find (λ (l : Line). l.number == number) lines)) []
 
 -- what is said between the line's number and the arrow, and what behind the arrow
-abbrev pub said_by : Scripts → ℕ → ℕ → What → List Text × List Text
-said_by scripts c number (what.Answered r) = (words_at scripts c number, reply_words r)
-said_by scripts c number what.Waits = (words_at scripts c number, codes "waits" ∷ [])
-said_by scripts c number (what.Reappend id key) = (codes "reappend" ∷ word id ∷ word key ∷ [], codes "done" ∷ [])
-said_by scripts c number what.End = (codes "end" ∷ [], codes "abandoned" ∷ [])
+abbrev pub event_words : Scripts → ℕ → ℕ → What → List Text × List Text
+event_words scripts c number (what.Answered r) = (words_at scripts c number, reply_words r)
+event_words scripts c number what.Waits = (words_at scripts c number, codes "waits" ∷ [])
+event_words scripts c number (what.Reappend id key) = (codes "reappend" ∷ word id ∷ word key ∷ [], codes "done" ∷ [])
+event_words scripts c number what.End = (codes "end" ∷ [], codes "abandoned" ∷ [])
 
 abbrev pub event_line : Scripts → Event → Text
-event_line scripts e = let said = said_by scripts e.client e.line e.what in
+event_line scripts e = let said = event_words scripts e.client e.line e.what in
     line (decimal e.client ∷ decimal e.line ∷ said.0 ++ codes "->" ∷ said.1)
 
 abbrev pub ack_line : Ack → Text
 ack_line a = line (codes "durable" ∷ decimal a.client ∷ decimal a.line ∷ [])
 
--- the events in order, the acknowledgements in the order in which they were made, and the last line
+-- the events in order, and the acknowledgements in the order in which they were made
+abbrev pub history_text : Scripts → List Event → List Ack → Text
+history_text scripts events acks = flat_map (event_line scripts) events ++ flat_map ack_line acks
+
+-- the same, and the last line
 abbrev pub transcript : Scripts → List Event → List Ack → Text → Text
 transcript scripts events acks last = flat_map (event_line scripts) events ++ flat_map ack_line acks ++ last
 
@@ -133,6 +139,6 @@ number_line name n = line (name ∷ decimal n ∷ [])
 
 abbrev pub stat_text : Stat → Text
 stat_text s =
-    number_line (codes "segments") s.segments ++ number_line (codes "chunks") s.chunks ++ number_line (codes "records") s.records
-    ++ number_line (codes "next") s.next ++ number_line (codes "lowest") s.lowest ++ number_line (codes "live") s.live
+    number_line (codes "segments") s.segments ++ number_line (codes "chunks") s.chunks
+    ++ number_line (codes "records") s.records ++ number_line (codes "next") s.next ++ number_line (codes "lowest") s.lowest ++ number_line (codes "live") s.live
     ++ number_line (codes "gap") s.gap

@@ -2,10 +2,10 @@
 ghost use Rattle.std.specs.Prelude.{◌≡◌, ◌<◌, ◌^◌, ◌∷◌, IfOk};
 ghost use Rattle.frs_text.specs.CommandLine.{number_up_to, demo_end, demo_with, demo_count, demo_of, run_of, plain_plan, job_named, job_of, plan_of, ReadsAs};
 
-use crate::plan::{FileNames, Job, PlainPlan, Plan, RunPlan};
+use crate::plan::{CLIENT_LIMIT, DEMO_LIMIT, Job, PlainPlan, Plan, RunPlan};
 use crate::words_fault::WordsFault;
 use frs_disk::Name;
-use frs_types::NoMemory;
+use frs_types::{NoMemory, Sequence};
 use std::alloc::Global;
 
 // The number from 1 to `most` that is written so.
@@ -43,7 +43,7 @@ fn read_run(alloc: Global, files: &[Name]) -> Result<Job, WordsFault>
     if files.is_empty() {
         return Err(WordsFault::Usage { word: 3 });
     }
-    let files = FileNames::of(copies(alloc, files)?);
+    let files = Sequence::of(copies(alloc, files)?);
     Ok(Job::Run {
         plan: RunPlan::Scripts { files },
     })
@@ -66,13 +66,13 @@ fn read_demo(alloc: Global, words: &[Name]) -> Result<Job, WordsFault>
     let [clients, words @ ..] = words else {
         return Err(WordsFault::Usage { word: 3 });
     };
-    let Some(clients) = number_of(alloc, clients, 64)? else {
+    let Some(clients) = number_of(alloc, clients, CLIENT_LIMIT)? else {
         return Err(WordsFault::Usage { word: 3 });
     };
     let [count, words @ ..] = words else {
         return Err(WordsFault::Usage { word: 4 });
     };
-    let Some(count) = number_of(alloc, count, 3_000)? else {
+    let Some(count) = number_of(alloc, count, DEMO_LIMIT)? else {
         return Err(WordsFault::Usage { word: 4 });
     };
     if !words.is_empty() {

@@ -1,7 +1,7 @@
 //! The bytes for which a word stands.
 ghost use Rattle.std.specs.Prelude.{◌≡◌, ◌<◌, ◌≤◌, None, length, IsTrue, IfOk, IfSome, MatchOption, option_map};
 ghost use Rattle.std.specs.Cow.{cow_slice_items};
-ghost use Rattle.frs_text.specs.Scripts.{is_hex, hex_value, with_byte, unescaped, meant, named};
+ghost use Rattle.frs_text.specs.Scripts.{is_hex, hex_value, with_byte, escape_meaning, word_meaning, name_meaning};
 
 use frs_types::NoMemory;
 use std::alloc::Global;
@@ -32,7 +32,8 @@ fn digit_value(digit: u8) -> u8
 // The first byte for which a word stands, and what is behind its spelling. None: a `%` has no two digits behind it.
 fn next_byte(word: &[u8]) -> Option<(u8, &[u8])>
     requires { 0 < length word.now }
-    ensures found { MatchOption result (unescaped word.now ≡ None) (λ found. unescaped word.now ≡ with_byte found.0 (unescaped found.1.now)) }
+    ensures found { MatchOption result (escape_meaning word.now ≡ None)
+        (λ found. escape_meaning word.now ≡ with_byte found.0 (escape_meaning found.1.now)) }
     ensures shorter { IfSome result (λ found. length found.1.now < length word.now) }
 {
     if word[0] != b'%' {
@@ -51,7 +52,7 @@ fn next_byte(word: &[u8]) -> Option<(u8, &[u8])>
 
 // The bytes for which a word stands that isn't `%` alone. None: a `%` has no two digits behind it.
 fn unescape(alloc: Global, word: &[u8]) -> Result<Option<Vec<u8>>, NoMemory>
-    ensures { IfOk result (λ found. option_map (λ v. v.items) found ≡ unescaped word.now) }
+    ensures { IfOk result (λ found. option_map (λ v. v.items) found ≡ escape_meaning word.now) }
 {
     let mut bytes = Vec::new(alloc);
     let mut rest = word;
@@ -67,7 +68,7 @@ fn unescape(alloc: Global, word: &[u8]) -> Result<Option<Vec<u8>>, NoMemory>
 
 /// The bytes for which a word stands. A word without `%` is not copied.
 pub(crate) fn meaning(alloc: Global, word: &[u8]) -> Result<Option<CowSlice<'_, u8>>, NoMemory>
-    ensures { IfOk result (λ found. option_map cow_slice_items found ≡ meant word.now) }
+    ensures { IfOk result (λ found. option_map cow_slice_items found ≡ word_meaning word.now) }
 {
     if !word.contains(&b'%') {
         return Ok(Some(CowSlice::Borrowed(word)));
@@ -80,8 +81,10 @@ pub(crate) fn meaning(alloc: Global, word: &[u8]) -> Result<Option<CowSlice<'_, 
 
 /// The same of an id or a key, which has at least one byte.
 pub(crate) fn name_meaning(alloc: Global, word: &[u8]) -> Result<Option<CowSlice<'_, u8>>, NoMemory>
-    ensures found { IfOk result (λ found. option_map cow_slice_items found ≡ named word.now) }
-    ensures filled { IfOk result (λ found. IfSome found (λ bytes. 1 ≤ length (cow_slice_items bytes))) }
+    ensures found { IfOk result (λ found. option_map cow_slice_items found
+        ≡ name_meaning word.now) }
+    ensures filled { IfOk result (λ found. IfSome found
+        (λ bytes. 1 ≤ length (cow_slice_items bytes))) }
 {
     match meaning(alloc, word)? {
         Some(bytes) if bytes.len() > 0 => Ok(Some(bytes)),

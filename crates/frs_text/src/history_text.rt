@@ -2,12 +2,11 @@
 ghost use Rattle.std.specs.Prelude.{◌≡◌, ℕ, List, [], ◌++◌, OnOk, IsTrue, flat_map};
 ghost use Rattle.std.specs.String.{string_bytes};
 ghost use Rattle.frs_disk.specs.Disk.{HasCause};
-ghost use Rattle.frs_disk.specs.Outside.{AddsPartOf};
-ghost use Rattle.frs_text.specs.Sinks.{GathersText};
-ghost use Rattle.frs_text.specs.Text.{event_line, ack_line};
+ghost use Rattle.frs_text.specs.Sinks.{GathersOnto, WritesAll, WritesPart};
+ghost use Rattle.frs_text.specs.Text.{event_line, ack_line, history_text};
 
-use crate::lines::{push_ack, push_event};
-use crate::pieces::{write_full, write_gathered};
+use crate::sink_buffer::{write_full, write_gathered};
+use crate::transcript_lines::{push_ack, push_event};
 use frs_disk::{Fault, Sink};
 use frs_history::{Ack, Event, Script};
 use std::alloc::Global;
@@ -18,8 +17,10 @@ fn write_event<S: Sink>(
     event: &Event,
     sink: &mut S,
 ) -> Result<(), Fault>
-    ensures all { OnOk result (IsTrue (S.tells sink.old) → GathersText (S.written sink.old) (string_bytes text.old) (S.written sink.new) (string_bytes text.new) (event_line scripts.now event.now)) }
-    ensures part { IsTrue (S.tells sink.old) → AddsPartOf (string_bytes text.old ++ event_line scripts.now event.now) (S.written sink.old) (S.written sink.new) }
+    ensures all { OnOk result (GathersOnto S.Sink sink.old (string_bytes text.old)
+        sink.new (string_bytes text.new) (event_line scripts.now event.now)) }
+    ensures part { WritesPart S.Sink (string_bytes text.old ++ event_line scripts.now event.now)
+        sink.old sink.new }
     ensures told { S.tells sink.new ≡ S.tells sink.old }
     ensures cause { HasCause (S.faults sink.old) (S.faults sink.new) result }
 {
@@ -28,8 +29,9 @@ fn write_event<S: Sink>(
 }
 
 fn write_ack<S: Sink>(text: &mut String, ack: &Ack, sink: &mut S) -> Result<(), Fault>
-    ensures all { OnOk result (IsTrue (S.tells sink.old) → GathersText (S.written sink.old) (string_bytes text.old) (S.written sink.new) (string_bytes text.new) (ack_line ack.now)) }
-    ensures part { IsTrue (S.tells sink.old) → AddsPartOf (string_bytes text.old ++ ack_line ack.now) (S.written sink.old) (S.written sink.new) }
+    ensures all { OnOk result (GathersOnto S.Sink sink.old (string_bytes text.old)
+        sink.new (string_bytes text.new) (ack_line ack.now)) }
+    ensures part { WritesPart S.Sink (string_bytes text.old ++ ack_line ack.now) sink.old sink.new }
     ensures told { S.tells sink.new ≡ S.tells sink.old }
     ensures cause { HasCause (S.faults sink.old) (S.faults sink.new) result }
 {
@@ -43,8 +45,10 @@ fn write_events<S: Sink>(
     events: &[Event],
     sink: &mut S,
 ) -> Result<(), Fault>
-    ensures all { OnOk result (IsTrue (S.tells sink.old) → GathersText (S.written sink.old) (string_bytes text.old) (S.written sink.new) (string_bytes text.new) (flat_map (event_line scripts.now) events.now)) }
-    ensures part { IsTrue (S.tells sink.old) → AddsPartOf (string_bytes text.old ++ flat_map (event_line scripts.now) events.now) (S.written sink.old) (S.written sink.new) }
+    ensures all { OnOk result (GathersOnto S.Sink sink.old (string_bytes text.old)
+        sink.new (string_bytes text.new) (flat_map (event_line scripts.now) events.now)) }
+    ensures part { WritesPart S.Sink
+        (string_bytes text.old ++ flat_map (event_line scripts.now) events.now) sink.old sink.new }
     ensures told { S.tells sink.new ≡ S.tells sink.old }
     ensures cause { HasCause (S.faults sink.old) (S.faults sink.new) result }
 {
@@ -55,8 +59,10 @@ fn write_events<S: Sink>(
 }
 
 fn write_acks<S: Sink>(text: &mut String, acks: &[Ack], sink: &mut S) -> Result<(), Fault>
-    ensures all { OnOk result (IsTrue (S.tells sink.old) → GathersText (S.written sink.old) (string_bytes text.old) (S.written sink.new) (string_bytes text.new) (flat_map ack_line acks.now)) }
-    ensures part { IsTrue (S.tells sink.old) → AddsPartOf (string_bytes text.old ++ flat_map ack_line acks.now) (S.written sink.old) (S.written sink.new) }
+    ensures all { OnOk result (GathersOnto S.Sink sink.old (string_bytes text.old)
+        sink.new (string_bytes text.new) (flat_map ack_line acks.now)) }
+    ensures part { WritesPart S.Sink (string_bytes text.old ++ flat_map ack_line acks.now)
+        sink.old sink.new }
     ensures told { S.tells sink.new ≡ S.tells sink.old }
     ensures cause { HasCause (S.faults sink.old) (S.faults sink.new) result }
 {
@@ -76,8 +82,10 @@ pub fn transcript<S: Sink>(
     acks: &[Ack],
     sink: &mut S,
 ) -> Result<(), Fault>
-    ensures all { OnOk result (IsTrue (S.tells sink.old) → S.written sink.new ≡ S.written sink.old ++ (flat_map (event_line scripts.now) events.now ++ flat_map ack_line acks.now)) }
-    ensures part { IsTrue (S.tells sink.old) → AddsPartOf (flat_map (event_line scripts.now) events.now ++ flat_map ack_line acks.now) (S.written sink.old) (S.written sink.new) }
+    ensures all { OnOk result (WritesAll S.Sink (history_text scripts.now events.now acks.now)
+        sink.old sink.new) }
+    ensures part { WritesPart S.Sink (history_text scripts.now events.now acks.now)
+        sink.old sink.new }
     ensures told { S.tells sink.new ≡ S.tells sink.old }
     ensures cause { HasCause (S.faults sink.old) (S.faults sink.new) result }
 {

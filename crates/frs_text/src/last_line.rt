@@ -2,7 +2,7 @@
 ghost use Rattle.std.specs.Prelude.{◌≡◌, ◌++◌, IsTrue, OnOk};
 ghost use Rattle.std.specs.String.{string_bytes};
 ghost use Rattle.frs_disk.specs.Disk.{HasCause};
-ghost use Rattle.frs_disk.specs.Outside.{AddsPartOf};
+ghost use Rattle.frs_text.specs.Sinks.{WritesAll, WritesPart};
 ghost use Rattle.frs_text.specs.LastLines.{last_line};
 
 use frs_disk::{Fault, Sink};
@@ -116,10 +116,8 @@ fn push_last_line(text: &mut String, last: LastLine) -> Result<(), NoMemory>
 
 /// Writes the line. A fault of the sink, or want of memory, leaves a front of it written.
 pub fn write_last_line<S: Sink>(alloc: Global, last: LastLine, sink: &mut S) -> Result<(), Fault>
-    ensures all { OnOk result (IsTrue (S.tells sink.old)
-        → S.written sink.new ≡ S.written sink.old ++ last_line last) }
-    ensures part { IsTrue (S.tells sink.old)
-        → AddsPartOf (last_line last) (S.written sink.old) (S.written sink.new) }
+    ensures all { OnOk result (WritesAll S.Sink (last_line last) sink.old sink.new) }
+    ensures part { WritesPart S.Sink (last_line last) sink.old sink.new }
     ensures told { S.tells sink.new ≡ S.tells sink.old }
     ensures cause { HasCause (S.faults sink.old) (S.faults sink.new) result }
 {

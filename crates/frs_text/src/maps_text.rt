@@ -7,15 +7,14 @@ ghost use Rattle.std.specs.String.{string_bytes};
 ghost use Rattle.frs_types.specs.Maps.{place_cmp, same_place};
 ghost use Rattle.frs_types.specs.Survivors.{maps_of};
 ghost use Rattle.frs_disk.specs.Disk.{HasCause};
-ghost use Rattle.frs_disk.specs.Outside.{AddsPartOf};
 ghost use Rattle.frs_recovery.specs.Answers.{place_of_entry};
 ghost use Rattle.frs_text.specs.Rows.{pair_of, pairs_of, row_line};
-ghost use Rattle.frs_text.specs.Sinks.{GathersText};
+ghost use Rattle.frs_text.specs.Sinks.{GathersOnto, WritesAll, WritesPart};
 ghost use Rattle.frs_text.specs.Text as text_of;
 ghost use Rattle.frs_text.specs.Text.{entry_line};
 
-use crate::pieces::{write_full, write_gathered};
-use crate::text::{push_shown, push_word};
+use crate::printed_words::{push_shown, push_word};
+use crate::sink_buffer::{write_full, write_gathered};
 use frs_disk::{Fault, Sink};
 use frs_types::{Entry, NoMemory};
 use std::alloc::Global;
@@ -41,7 +40,8 @@ fn references(alloc: Global, entries: &[Entry]) -> Result<Vec<&Entry>, NoMemory>
 fn in_order(alloc: Global, entries: &[Entry]) -> Result<Vec<&Entry>, NoMemory>
     requires { IsDistinct same_place (map place_of_entry entries.now) }
     ensures pairs { IfOk result (λ rows. pairs_of rows.items ≡ maps_of entries.now) }
-    ensures lines { IfOk result (λ rows. flat_map row_line rows.items ≡ text_of.dump (maps_of entries.now)) }
+    ensures lines { IfOk result (λ rows. flat_map row_line rows.items
+        ≡ text_of.dump (maps_of entries.now)) }
 {
     let mut rows = references(alloc, entries)?;
     rows.sort_unstable_by(|a, b| by_place(a, b));
@@ -49,7 +49,8 @@ fn in_order(alloc: Global, entries: &[Entry]) -> Result<Vec<&Entry>, NoMemory>
 }
 
 fn push_entry(text: &mut String, entry: &Entry) -> Result<(), NoMemory>
-    ensures { OnOk result (string_bytes text.new ≡ string_bytes text.old ++ entry_line (pair_of entry.now)) }
+    ensures { OnOk result (string_bytes text.new
+        ≡ string_bytes text.old ++ entry_line (pair_of entry.now)) }
 {
     push_shown(text, entry.id.bytes())?;
     push_word(text, entry.key.bytes())?;
@@ -59,8 +60,10 @@ fn push_entry(text: &mut String, entry: &Entry) -> Result<(), NoMemory>
 }
 
 fn write_entry<S: Sink>(text: &mut String, entry: &Entry, sink: &mut S) -> Result<(), Fault>
-    ensures all { OnOk result (IsTrue (S.tells sink.old) → GathersText (S.written sink.old) (string_bytes text.old) (S.written sink.new) (string_bytes text.new) (entry_line (pair_of entry.now))) }
-    ensures part { IsTrue (S.tells sink.old) → AddsPartOf (string_bytes text.old ++ entry_line (pair_of entry.now)) (S.written sink.old) (S.written sink.new) }
+    ensures all { OnOk result (GathersOnto S.Sink sink.old (string_bytes text.old)
+        sink.new (string_bytes text.new) (entry_line (pair_of entry.now))) }
+    ensures part { WritesPart S.Sink (string_bytes text.old ++ entry_line (pair_of entry.now))
+        sink.old sink.new }
     ensures told { S.tells sink.new ≡ S.tells sink.old }
     ensures cause { HasCause (S.faults sink.old) (S.faults sink.new) result }
 {
@@ -69,8 +72,10 @@ fn write_entry<S: Sink>(text: &mut String, entry: &Entry, sink: &mut S) -> Resul
 }
 
 fn write_entries<S: Sink>(text: &mut String, rows: &[&Entry], sink: &mut S) -> Result<(), Fault>
-    ensures all { OnOk result (IsTrue (S.tells sink.old) → GathersText (S.written sink.old) (string_bytes text.old) (S.written sink.new) (string_bytes text.new) (flat_map row_line rows.now)) }
-    ensures part { IsTrue (S.tells sink.old) → AddsPartOf (string_bytes text.old ++ flat_map row_line rows.now) (S.written sink.old) (S.written sink.new) }
+    ensures all { OnOk result (GathersOnto S.Sink sink.old (string_bytes text.old)
+        sink.new (string_bytes text.new) (flat_map row_line rows.now)) }
+    ensures part { WritesPart S.Sink (string_bytes text.old ++ flat_map row_line rows.now)
+        sink.old sink.new }
     ensures told { S.tells sink.new ≡ S.tells sink.old }
     ensures cause { HasCause (S.faults sink.old) (S.faults sink.new) result }
 {
@@ -82,8 +87,8 @@ fn write_entries<S: Sink>(text: &mut String, rows: &[&Entry], sink: &mut S) -> R
 
 // All of the lines.
 fn write_rows<S: Sink>(alloc: Global, rows: &[&Entry], sink: &mut S) -> Result<(), Fault>
-    ensures all { OnOk result (IsTrue (S.tells sink.old) → S.written sink.new ≡ S.written sink.old ++ flat_map row_line rows.now) }
-    ensures part { IsTrue (S.tells sink.old) → AddsPartOf (flat_map row_line rows.now) (S.written sink.old) (S.written sink.new) }
+    ensures all { OnOk result (WritesAll S.Sink (flat_map row_line rows.now) sink.old sink.new) }
+    ensures part { WritesPart S.Sink (flat_map row_line rows.now) sink.old sink.new }
     ensures told { S.tells sink.new ≡ S.tells sink.old }
     ensures cause { HasCause (S.faults sink.old) (S.faults sink.new) result }
 {
@@ -96,8 +101,9 @@ fn write_rows<S: Sink>(alloc: Global, rows: &[&Entry], sink: &mut S) -> Result<(
 /// have the same id and key. A fault of the sink, or want of memory, leaves a front of that text written.
 pub fn dump<S: Sink>(alloc: Global, entries: &[Entry], sink: &mut S) -> Result<(), Fault>
     requires { IsDistinct same_place (map place_of_entry entries.now) }
-    ensures all { OnOk result (IsTrue (S.tells sink.old) → S.written sink.new ≡ S.written sink.old ++ text_of.dump (maps_of entries.now)) }
-    ensures part { IsTrue (S.tells sink.old) → AddsPartOf (text_of.dump (maps_of entries.now)) (S.written sink.old) (S.written sink.new) }
+    ensures all { OnOk result (WritesAll S.Sink (text_of.dump (maps_of entries.now))
+        sink.old sink.new) }
+    ensures part { WritesPart S.Sink (text_of.dump (maps_of entries.now)) sink.old sink.new }
     ensures told { S.tells sink.new ≡ S.tells sink.old }
     ensures cause { HasCause (S.faults sink.old) (S.faults sink.new) result }
 {

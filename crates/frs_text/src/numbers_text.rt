@@ -1,11 +1,15 @@
 //! The seven numbers of a store as it was read back, a line for each.
-ghost use Rattle.std.specs.Prelude.{◌≡◌, ◌≤◌, ◌++◌, length, sum_by, OnOk, IfOk, IsTrue};
+ghost use Rattle.std.specs.Prelude.{◌≡◌, List, ◌≤◌, ◌++◌, length, sum_by, OnOk, IfOk, IsTrue};
 ghost use Rattle.std.specs.String.{string_bytes};
-ghost use Rattle.frs_segment.specs.declared.layout.Segment.{Segment as Described};
+ghost use Rattle.frs_types.specs.Records.{Log};
+ghost use Rattle.frs_segment.specs.declared.layout.Segment.{Segment};
+ghost use Rattle.frs_segment.specs.Segments.{FileList, WholeSegment};
+ghost use Rattle.frs_recovery.specs.declared.recovered.Recovered.{Recovered};
+ghost use Rattle.frs_recovery.specs.Answers.{IsRecovered};
 ghost use Rattle.frs_disk.specs.Disk.{HasCause};
-ghost use Rattle.frs_disk.specs.Outside.{AddsPartOf};
+ghost use Rattle.frs_text.specs.Sinks.{WritesAll, WritesPart};
 ghost use Rattle.frs_text.specs.Text as text_of;
-ghost use Rattle.frs_text.specs.Text.{stat_found};
+ghost use Rattle.frs_text.specs.Text.{stat_of, stat_found};
 
 use frs_disk::{Fault, Sink};
 use frs_recovery::Recovered;
@@ -15,11 +19,11 @@ use std::alloc::Global;
 
 // How many chunks the segments have. A number of 128 bits holds any sum of so many lengths.
 fn chunks_of(segments: &[Segment]) -> u128
-    ensures { result ≡ sum_by (λ (s : Described). length s.chunks) segments.now }
+    ensures { result ≡ sum_by (λ (s : Segment). length s.chunks) segments.now }
 {
     let mut chunks = 0;
     for segment in segments {
-        chunks += segment.chunks.places().len() as u128;
+        chunks += segment.chunks.items().len() as u128;
     }
     chunks
 }
@@ -28,17 +32,18 @@ fn chunks_of(segments: &[Segment]) -> u128
 fn numbers(alloc: Global, recovered: &Recovered) -> Result<String, NoMemory>
     requires lowest { recovered.now.lowest ≤ recovered.now.found.next }
     requires named { recovered.now.found.named ≤ recovered.now.found.next }
-    ensures { IfOk result (λ text. string_bytes text ≡ text_of.stat_text (stat_found recovered.now)) }
+    ensures { IfOk result (λ text. string_bytes text
+        ≡ text_of.stat_text (stat_found recovered.now)) }
 {
     let found = &recovered.found;
-    let segments = found.segments.segments();
+    let segments = found.segments.items();
     let mut text = String::new(alloc);
     write!(text, "segments {}\n", segments.len())?;
     write!(text, "chunks {}\n", chunks_of(segments))?;
     write!(text, "records {}\n", found.next - found.named)?;
     write!(text, "next {}\n", found.next)?;
     write!(text, "lowest {}\n", recovered.lowest)?;
-    write!(text, "live {}\n", recovered.entries.entries().len())?;
+    write!(text, "live {}\n", recovered.entries.items().len())?;
     write!(text, "gap {}\n", found.next - recovered.lowest)?;
     Ok(text)
 }
@@ -50,11 +55,19 @@ fn numbers(alloc: Global, recovered: &Recovered) -> Result<String, NoMemory>
 pub fn stat_text<S: Sink>(alloc: Global, recovered: &Recovered, sink: &mut S) -> Result<(), Fault>
     requires lowest { recovered.now.lowest ≤ recovered.now.found.next }
     requires named { recovered.now.found.named ≤ recovered.now.found.next }
-    ensures all { OnOk result (IsTrue (S.tells sink.old) → S.written sink.new ≡ S.written sink.old ++ text_of.stat_text (stat_found recovered.now)) }
-    ensures part { IsTrue (S.tells sink.old) → AddsPartOf (text_of.stat_text (stat_found recovered.now)) (S.written sink.old) (S.written sink.new) }
+    ensures all { OnOk result (WritesAll S.Sink (text_of.stat_text (stat_found recovered.now))
+        sink.old sink.new) }
+    ensures part { WritesPart S.Sink (text_of.stat_text (stat_found recovered.now))
+        sink.old sink.new }
     ensures told { S.tells sink.new ≡ S.tells sink.old }
     ensures cause { HasCause (S.faults sink.old) (S.faults sink.new) result }
 {
     let text = numbers(alloc, recovered)?;
     sink.write(text.as_bytes())
 }
+
+/// The numbers of a store as it was read back are those of the log that its files spell.
+pub fn stat_of_store()
+    ensures { (image : FileList) (segments : List WholeSegment) (log : Log) (r : Recovered)
+        → IsRecovered image segments log r → stat_found r ≡ stat_of segments log }
+{}

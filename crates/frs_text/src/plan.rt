@@ -1,47 +1,12 @@
 //! What a command line asks for.
-ghost use Rattle.std.specs.Prelude.{◌≡◌};
-
 use frs_disk::Name;
-use std::marker::Model;
+use frs_types::Sequence;
 
-/// The names of script files, in the order of the clients. Contracts see the list of the names, each as the list of
-/// its bytes.
-#[derive(Debug, Drop)]
-pub struct FileNames {
-    names: Vec<Name>,
-}
+/// The most clients of a run.
+pub const CLIENT_LIMIT: u32 = 64;
 
-impl Model for FileNames {
-    ghost use Rattle.std.specs.Prelude.{List, ℕ};
-
-    ghost Value = { List (List ℕ) };
-
-    ghost view = { λ a. a.names.items };
-}
-
-impl FileNames {
-    /// These names.
-    pub fn of(names: Vec<Name>) -> FileNames
-        ensures { result ≡ names.items }
-    {
-        FileNames { names }
-    }
-
-    /// The names.
-    pub fn names(&self) -> &[Name]
-        ensures { result.now ≡ self.now }
-    {
-        self.names.as_slice()
-    }
-
-    /// The names, given back.
-    pub fn into_vec(self) -> Vec<Name>
-        ensures { result.items ≡ self }
-    {
-        let FileNames { names } = self;
-        names
-    }
-}
+/// The most transactions that a client of a demo makes.
+pub const DEMO_LIMIT: u32 = 3_000;
 
 /// A job that opens the store, runs clients on it, and closes it.
 #[derive(Debug, Drop)]
@@ -49,13 +14,13 @@ pub enum RunPlan {
     /// A client for each file, which runs the script in it.
     Scripts {
         /// The files of clients 1, 2, ..; at least one.
-        files: FileNames,
+        files: Sequence<Name>,
     },
     /// Clients that run generated scripts.
     Demo {
-        /// How many clients, from 1 to 64.
+        /// How many clients, from 1 to `CLIENT_LIMIT`.
         clients: u32,
-        /// How many transactions each of them makes, from 1 to 3,000.
+        /// How many transactions each of them makes, from 1 to `DEMO_LIMIT`.
         count: u32,
     },
 }

@@ -2,7 +2,7 @@
 ghost use Rattle.std.specs.Prelude.{◌<◌, ◌^◌, length};
 ghost use Rattle.frs_text.specs.Scripts.{up_to, script_of, Parses};
 
-use crate::draft::Draft;
+use crate::script_builder::ScriptBuilder;
 use crate::script_fault::ScriptFault;
 use crate::word_split::first_line;
 use frs_history::Script;
@@ -20,7 +20,7 @@ pub fn parse_script(
     requires { length bytes.now < 2 ^ 32 }
     ensures { Parses result (script_of (up_to lines snapshots) bytes.now) }
 {
-    let mut draft = Draft::new(alloc);
+    let mut draft = ScriptBuilder::new(alloc);
     let mut rest = bytes;
     let mut number = 0;
     while !rest.is_empty() {

@@ -1,6 +1,6 @@
 //! Scripts, command lines and transcripts, with what is wanted written by hand.
 use super::*;
-use crate::text::push_command;
+use crate::printed_words::push_command;
 use frs_disk::{MemSink, Name};
 use frs_history::{Ack, Event, Reply, What};
 use frs_types::{Key, MapId, Value};

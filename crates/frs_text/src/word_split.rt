@@ -54,7 +54,8 @@ fn blank_at(line: &[u8]) -> Option<usize>
 
 /// The first word, and what stands behind it.
 pub(crate) fn next_word(line: &[u8]) -> Option<(&[u8], &[u8])>
-    ensures { MatchOption result (words_of line.now ≡ []) (λ found. words_of line.now ≡ found.0.now ∷ words_of found.1.now) }
+    ensures { MatchOption result (words_of line.now ≡ [])
+        (λ found. words_of line.now ≡ found.0.now ∷ words_of found.1.now) }
 {
     let start = filled_at(line)?;
     let line = &line[start..];
@@ -66,7 +67,8 @@ pub(crate) fn next_word(line: &[u8]) -> Option<(&[u8], &[u8])>
 
 /// The only word.
 pub(crate) fn one_word(line: &[u8]) -> Option<&[u8]>
-    ensures { MatchOption result (one (words_of line.now) ≡ None) (λ word. one (words_of line.now) ≡ Some word.now) }
+    ensures { MatchOption result (one (words_of line.now) ≡ None)
+        (λ word. one (words_of line.now) ≡ Some word.now) }
 {
     let (word, rest) = next_word(line)?;
     if next_word(rest).is_some() {
@@ -77,7 +79,8 @@ pub(crate) fn one_word(line: &[u8]) -> Option<&[u8]>
 
 /// The two words, where there are two.
 pub(crate) fn two_words(line: &[u8]) -> Option<(&[u8], &[u8])>
-    ensures { MatchOption result (two (words_of line.now) ≡ None) (λ words. two (words_of line.now) ≡ Some (words.0.now, words.1.now)) }
+    ensures { MatchOption result (two (words_of line.now) ≡ None)
+        (λ words. two (words_of line.now) ≡ Some (words.0.now, words.1.now)) }
 {
     let (first, rest) = next_word(line)?;
     let second = one_word(rest)?;
@@ -86,7 +89,8 @@ pub(crate) fn two_words(line: &[u8]) -> Option<(&[u8], &[u8])>
 
 /// The three words, where there are three.
 pub(crate) fn three_words(line: &[u8]) -> Option<(&[u8], &[u8], &[u8])>
-    ensures { MatchOption result (three (words_of line.now) ≡ None) (λ words. three (words_of line.now) ≡ Some (words.0.now, words.1.now, words.2.now)) }
+    ensures { MatchOption result (three (words_of line.now) ≡ None)
+        (λ words. three (words_of line.now) ≡ Some (words.0.now, words.1.now, words.2.now)) }
 {
     let (first, rest) = next_word(line)?;
     let (second, third) = two_words(rest)?;

@@ -2,7 +2,7 @@ use Rattle.std.proofs.Common.{arith, ◌≡◌, ap, sym, true, ◌∙◌}
 use Rattle.std.proofs.lemmas.Slice.Eq.{bytes_eq-Decides}
 use Rattle.std.specs.Fmt.{decimal}
 use Rattle.std.specs.Str.{bytes_eq}
-use Rattle.frs_text.proofs.Numbers.{no_number, the_number, parsed}
+use Rattle.frs_text.proofs.NumberOf.{no_number, the_number, parsed}
 use Rattle.frs_text.proofs.command_line.number_of.Goals as goal
 use Rattle.frs_text.proofs.command_line.number_of.Goals.{then-number-eq0-via-then-number-eq0, then-number-eq0-via-else-number-eq0+then-number-most}
 

@@ -1,5 +1,5 @@
 use Rattle.std.proofs.Common.{sym, ◌∙◌}
-use Rattle.frs_text.proofs.Escapes.{meant-plain}
+use Rattle.frs_text.proofs.Unescape.{meant-plain}
 use Rattle.frs_text.proofs.escape.meaning.Goals as goal
 
 pub returns-then-not-contains : goal.returns-then-not-contains

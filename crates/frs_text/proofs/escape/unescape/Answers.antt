@@ -1,6 +1,6 @@
 use Rattle.std.proofs.Common.{ap, sym, ◌∙◌}
-use Rattle.frs_text.specs.Reading.{after_front}
-use Rattle.frs_text.proofs.Escapes.{after_front-push}
+use Rattle.frs_text.specs.LineReadings.{after_front}
+use Rattle.frs_text.proofs.Unescape.{after_front-push}
 use Rattle.frs_text.proofs.escape.unescape.Goals as goal
 
 pub loop-rest-preserved : goal.loop-rest-preserved

@@ -1,5 +1,5 @@
 use Rattle.std.proofs.Common.{◌∙◌}
-use Rattle.frs_text.proofs.Gathered.{adds_of_longer, stopped_in_second, stopped_at_end, gathers_more}
+use Rattle.frs_text.proofs.GathersText.{adds_of_longer, stopped_in_second, stopped_at_end, gathers_more}
 use Rattle.frs_text.proofs.history_text.transcript.Goals as goal
 
 pub returns-in_err-write_events-clause-part : goal.returns-in_err-write_events-clause-part

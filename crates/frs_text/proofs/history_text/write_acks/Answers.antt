@@ -1,7 +1,7 @@
 use Rattle.std.proofs.Common.{◌<◌, length, arith, rules, ◌∙◌}
 use Rattle.std.proofs.lemmas.List.{get_or_default}
 use Rattle.frs_text.specs.Text.{ack_line}
-use Rattle.frs_text.proofs.Gathered.{piece_gathered, stopped_in_piece, adds_of_gathered, all_gathered}
+use Rattle.frs_text.proofs.GathersText.{piece_gathered, stopped_in_piece, adds_of_gathered, all_gathered}
 use Rattle.frs_text.proofs.history_text.write_acks.Goals as goal
 
 pub returns-in_err-write_ack-clause-part : goal.returns-in_err-write_ack-clause-part

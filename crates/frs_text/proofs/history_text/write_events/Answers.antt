@@ -1,6 +1,6 @@
 use Rattle.std.proofs.Common.{arith, rules, ◌∙◌}
 use Rattle.frs_text.specs.Text.{event_line}
-use Rattle.frs_text.proofs.Gathered.{piece_gathered, stopped_in_piece, adds_of_gathered, all_gathered}
+use Rattle.frs_text.proofs.GathersText.{piece_gathered, stopped_in_piece, adds_of_gathered, all_gathered}
 use Rattle.frs_text.proofs.history_text.write_events.Goals as goal
 
 pub returns-in_err-write_event-clause-part : goal.returns-in_err-write_event-clause-part

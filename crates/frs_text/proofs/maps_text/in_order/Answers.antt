@@ -3,7 +3,7 @@ use Rattle.std.proofs.lemmas.List.Sorted.{answers_always, ranks_by}
 use Rattle.std.specs.Borrow.{Bor}
 use Rattle.frs_types.specs.declared.record.Entry.{Entry}
 use Rattle.frs_recovery.specs.Answers.{place_of_entry}
-use Rattle.frs_text.proofs.PlaceOrder.{place_total, rows_in_order, rows_text}
+use Rattle.frs_text.proofs.InOrder.{place_total, rows_in_order, rows_text}
 use Rattle.frs_text.proofs.maps_text.in_order.Goals as goal
 
 pub returns-clause-pairs : goal.returns-clause-pairs

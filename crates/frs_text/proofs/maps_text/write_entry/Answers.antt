@@ -1,4 +1,4 @@
-use Rattle.frs_text.proofs.Gathered.{nothing_taken}
+use Rattle.frs_text.proofs.GathersText.{nothing_taken}
 use Rattle.frs_text.proofs.maps_text.write_entry.Goals as goal
 
 pub returns-in_err-push_entry-clause-part : goal.returns-in_err-push_entry-clause-part

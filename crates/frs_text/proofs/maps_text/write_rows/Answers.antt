@@ -1,5 +1,5 @@
 use Rattle.std.proofs.Common.{◌∙◌}
-use Rattle.frs_text.proofs.Gathered.{stopped_at_end}
+use Rattle.frs_text.proofs.GathersText.{stopped_at_end}
 use Rattle.frs_text.proofs.maps_text.write_rows.Goals as goal
 
 pub returns-in_err-write_entries-clause-part : goal.returns-in_err-write_entries-clause-part

@@ -1,7 +1,7 @@
 use Rattle.std.proofs.Common.{◌+◌, ◌∙◌, sym}
 use Rattle.std.proofs.lemmas.Bool.{eqb-true}
 use Rattle.frs_text.specs.Scripts.{up_to}
-use Rattle.frs_text.proofs.ScriptLaw.{read_to_end}
+use Rattle.frs_text.proofs.ScriptOf.{read_to_end}
 use Rattle.frs_text.proofs.script.parse_script.Goals as goal
 
 pub of-requires : goal.of-requires

@@ -1,4 +1,4 @@
-use Rattle.frs_text.proofs.WordParts.{last_line, line_before_feed}
+use Rattle.frs_text.proofs.WordsOf.{last_line, line_before_feed}
 use Rattle.frs_text.proofs.word_split.first_line.Goals as goal
 
 pub returns-in-None-clause-lines : goal.returns-in-None-clause-lines

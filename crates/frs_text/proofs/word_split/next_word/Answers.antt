@@ -1,6 +1,6 @@
 use Rattle.std.proofs.Common.{refl}
 use Rattle.frs_text.specs.Scripts.{is_blank}
-use Rattle.frs_text.proofs.WordParts.{no_part, part_to_end, part_to}
+use Rattle.frs_text.proofs.WordsOf.{no_part, part_to_end, part_to}
 use Rattle.frs_text.proofs.word_split.next_word.Goals as goal
 
 pub returns-in_err-start : goal.returns-in_err-start
