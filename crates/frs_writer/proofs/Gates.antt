@@ -5,8 +5,8 @@ use Rattle.std.proofs.lemmas.Bool.{cases_eq}
 use Rattle.std.proofs.lemmas.List.{take_all, take_at, drop_all, append-nil, set_at}
 use Rattle.frs_disk.specs.Disk.{bytes_after_write}
 use Rattle.frs_segment.specs.Front.{HasAnyGate}
-use Rattle.frs_writer.specs.Appending.{IsShut}
-use Rattle.frs_writer.specs.Appending.{IsAtGate}
+use Rattle.frs_writer.specs.Gates.{IsShut}
+use Rattle.frs_writer.specs.Gates.{IsAtGate}
 
 -- the bytes before the gate
 pub at_gate : (file : Option (List ℕ)) (gate_at : ℕ) → IsAtGate gate_at file

@@ -5,7 +5,8 @@ use Rattle.std.specs.Option.{option_to_list}
 use Rattle.std.proofs.lemmas.List.{append-nil}
 use Rattle.std.proofs.lemmas.Grind.{flat_map-append}
 use Rattle.frs_slots.specs.Views.{TakerView, next_taken}
-use Rattle.frs_writer.specs.Appending.{head_of, sealed}
+use Rattle.frs_segment.specs.Front.{chunk_head}
+use Rattle.frs_writer.specs.Gates.{sealed}
 use Rattle.frs_writer.specs.Chunk.{ChunkView}
 use Rattle.frs_writer.specs.Groups.{joined_records, IsTooLong, Gathered, GathersGroup, HasGroup, Added, Stopped}
 
@@ -153,10 +154,10 @@ nothing_gathered limit before now kept still (b ∷ group) g none = absurd (omeg
 
 -- the bytes of a chunk that was sealed
 pub sealed_bytes : (first : ℕ) (chunk : ChunkView) (group : List (List ℕ)) → HasGroup chunk group
-    → head_of (length chunk.bytes - 16) chunk.count first ++ drop 16 chunk.bytes ++ 0 ∷ [] ≡ sealed first (length group) (joined_records group)
+    → chunk_head (length chunk.bytes - 16) chunk.count first ++ drop 16 chunk.bytes ++ 0 ∷ [] ≡ sealed first (length group) (joined_records group)
 sealed_bytes first chunk group has =
-    ap (λ (c : ChunkView). head_of (length c.bytes - 16) c.count first ++ drop 16 c.bytes ++ 0 ∷ []) has
-    ∙ ap (λ (n : ℕ). head_of n (length group) first ++ joined_records group ++ 0 ∷ []) (omega (arith, length-append (replicate 16 0) (joined_records group)))
+    ap (λ (c : ChunkView). chunk_head (length c.bytes - 16) c.count first ++ drop 16 c.bytes ++ 0 ∷ []) has
+    ∙ ap (λ (n : ℕ). chunk_head n (length group) first ++ joined_records group ++ 0 ∷ []) (omega (arith, length-append (replicate 16 0) (joined_records group)))
 
 pub body_is : (chunk : ChunkView) (group : List (List ℕ)) → HasGroup chunk group → length chunk.bytes - 16 ≡ length (joined_records group)
 body_is chunk group has = omega (arith, long chunk group has)

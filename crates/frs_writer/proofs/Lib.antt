@@ -7,9 +7,10 @@ mod Gathering
 mod Going
 mod Grown
 mod Images
+mod IsOpening
 mod Keeping
+mod LeavesLog
 mod Logs
-mod Next
 mod Opened
 mod Order
 mod Placing
@@ -18,6 +19,6 @@ mod Segments
 mod Showing
 mod Spelled
 mod Steps
-mod Thinning
 mod Whole
+mod WriteGroup
 mod Written

@@ -17,13 +17,13 @@ use Rattle.frs_segment.specs.declared.layout.Found.{Found}
 use Rattle.frs_segment.specs.Segments.{File, WholeSegment, IsSegment, SpellsBy, Spells, is_open_file, open_files, all_records, records_of, end_of, first_of, follow_from, places_of}
 use Rattle.frs_segment.specs.Segments.{FileList}
 use Rattle.frs_segment.specs.Stores.{IsFound, SpellsAlike, is_below, numbers_of}
-use Rattle.frs_writer.specs.Opening.{Thinned, IsOpening}
-use Rattle.frs_writer.specs.Shown.{ShowsLog, Rests, TakesNext, new_segment}
+use Rattle.frs_writer.specs.Setup.{Thinned, IsOpening}
+use Rattle.frs_writer.specs.LogImages.{ShowsLog, Rests, TakesNext, new_segment}
 use Rattle.frs_writer.proofs.Images.{rising}
 use Rattle.frs_writer.proofs.Order.{none_order, none_looked}
 use Rattle.frs_writer.proofs.Showing.{base_shows, spells, shows_takes}
 use Rattle.frs_writer.proofs.Steps.{one_next, one_making}
-use Rattle.frs_writer.proofs.Thinning.{thin_absent}
+use Rattle.frs_writer.proofs.IsOpening.{thin_absent}
 use Rattle.frs_writer.proofs.Files.{sorted_kept, filter_whole, filter_swap, lower_before, there_behind, all_there, all_numbers_there, by_numbers, Kept, kept_there}
 use Rattle.frs_writer.proofs.Found.{is_half, found_lowest}
 

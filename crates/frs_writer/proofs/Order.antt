@@ -11,8 +11,8 @@ use Rattle.frs_segment.specs.Front.{header, IsHalfMade}
 use Rattle.frs_segment.specs.Segments.{File, WholeSegment, IsSegment, FileList, chunks_bytes, segment_spelling, is_open_file, open_files}
 use Rattle.frs_segment.specs.Order.{IsInOrder, firsts_of}
 use Rattle.frs_segment.specs.Stores.{numbers_of}
-use Rattle.frs_segment.proofs.Order.{no_files}
-use Rattle.frs_writer.specs.Shown.{TakesNext}
+use Rattle.frs_segment.proofs.IsInOrder.{no_files}
+use Rattle.frs_writer.specs.LogImages.{TakesNext}
 
 -- ---- open files
 

@@ -9,8 +9,8 @@ use Rattle.frs_segment.specs.declared.layout.Segment.{Segment}
 use Rattle.frs_segment.specs.Front.{header}
 use Rattle.frs_segment.specs.Segments.{WholeSegment, segment_spelling, chunk_bytes, chunks_bytes, body, end_of, records_of}
 use Rattle.frs_segment.specs.Scanning.{places_of_segment, chunk_place, places_from}
-use Rattle.frs_writer.specs.Shown.{with_chunk, new_segment}
-use Rattle.frs_writer.specs.Places.{grown, with_newest_grown, number_of_newest, length_of_newest}
+use Rattle.frs_writer.specs.LogImages.{with_chunk, new_segment}
+use Rattle.frs_writer.specs.Places.{with_chunk_place, with_newest_grown, number_of_newest, length_of_newest, chunks_of_newest}
 
 chunk_long : (first : ℕ) (rs : List Record) → length (chunk_bytes first rs) ≡ 17 + length (body rs)
 chunk_long first rs = omega arith
@@ -49,7 +49,7 @@ end-push s rs =
     ap (λ (l : List Record). s.first + length l) (flat_map-append (λ (c : List Record). c) s.chunks (rs ∷ []) ∙ ap (λ (l : List Record). records_of s ++ l) (append-nil rs))
     ∙ omega (arith, length-append (records_of s) rs)
 
-pub described_grown : (s : WholeSegment) (rs : List Record) → places_of_segment (with_chunk s rs) ≡ grown (length rs) (length (body rs)) (places_of_segment s)
+pub described_grown : (s : WholeSegment) (rs : List Record) → places_of_segment (with_chunk s rs) ≡ with_chunk_place (length rs) (length (body rs)) (places_of_segment s)
 described_grown s rs =
     let o : 22 + length (chunks_bytes s.first s.chunks) ≡ length (segment_spelling s) + 1 - 1 = omega (arith, length-append (1 ∷ header s.number s.first) (chunks_bytes s.first s.chunks)) in
     ap (λ (n : ℕ). record { number = s.number; first = s.first; «end» = n; length = length (segment_spelling (with_chunk s rs)) + 1; chunks = places_from 22 s.first (s.chunks ++ rs ∷ []) }) (end-push s rs)
@@ -59,7 +59,7 @@ described_grown s rs =
 
 -- ---- the newest of segments
 
-pub newest_grown : (count long : ℕ) (older : List Segment) (s : Segment) → with_newest_grown count long (older ++ s ∷ []) ≡ older ++ grown count long s ∷ []
+pub newest_grown : (count long : ℕ) (older : List Segment) (s : Segment) → with_newest_grown count long (older ++ s ∷ []) ≡ older ++ with_chunk_place count long s ∷ []
 newest_grown count long [] s = refl
 newest_grown count long (x ∷ []) s = refl
 newest_grown count long (x ∷ y ∷ older) s = ap (λ (l : List Segment). x ∷ l) (newest_grown count long (y ∷ older) s)
@@ -73,6 +73,11 @@ pub newest_length : (older : List Segment) (s : Segment) → length_of_newest (o
 newest_length [] s = refl
 newest_length (x ∷ []) s = refl
 newest_length (x ∷ y ∷ older) s = newest_length (y ∷ older) s
+
+pub newest_chunks : (older : List Segment) (s : Segment) → chunks_of_newest (older ++ s ∷ []) ≡ s.chunks
+newest_chunks [] s = refl
+newest_chunks (x ∷ []) s = refl
+newest_chunks (x ∷ y ∷ older) s = newest_chunks (y ∷ older) s
 
 pub same_newest : (xs bs : List Segment) (a b : Segment) → xs ++ a ∷ [] ≡ bs ++ b ∷ [] → (xs ≡ bs) × (a ≡ b)
 same_newest [] [] a b is = (refl, cc)

@@ -12,7 +12,7 @@ use Rattle.frs_types.specs.Records.{Log, is_allowed, are_allowed_from, kind_allo
 use Rattle.frs_segment.specs.Front.{header, empty_segment, IsHalfMade}
 use Rattle.frs_segment.specs.Order.{IsInOrder}
 use Rattle.frs_segment.specs.Segments.{File, WholeSegment, IsSegment, FileList, records_of, end_of, body, chunk_bytes, chunks_bytes, segment_spelling, is_chunk, are_chunks, open_files, all_records, follow_from, first_alone_reaches, first_of, are_enough, SpellsBy, Spells}
-use Rattle.frs_writer.specs.Shown.{ShowsLog, Rests, TakesNext, file_of, with_chunk, new_segment}
+use Rattle.frs_writer.specs.LogImages.{ShowsLog, Rests, TakesNext, file_of, with_chunk, new_segment}
 use Rattle.frs_writer.proofs.Order.{spelled_open, half_shut, open_more, open_as_before, all_open_more, with_open, with_half, takes_more, takes_first, none_looked, none_order}
 
 -- ---- lists of segments

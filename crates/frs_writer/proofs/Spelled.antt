@@ -1,15 +1,17 @@
 -- What an image spells that shows a part of the log.
-use Rattle.std.proofs.Common.{◌≡◌, ℕ, ◌+◌, ◌-◌, ◌≤◌, Bool, true, List, [], ◌++◌, length, take, drop, None, sym, ◌∙◌, ap, subst, arith, length-append, take-append-drop, IsTrue}
+use Rattle.std.proofs.Common.{◌≡◌, ℕ, ◌+◌, ◌-◌, ◌≤◌, true, List, [], ◌++◌, length, take, drop, None, sym, ◌∙◌, ap, subst, arith, length-append, take-append-drop, IsTrue}
 use Rattle.std.proofs.Math.Seq.{take-append-add}
 use Rattle.std.proofs.lemmas.List.{length-map}
 use Rattle.std.specs.FinMap.{entries}
 use Rattle.frs_types.specs.declared.record.Record.{Record}
 use Rattle.frs_types.specs.Records.{Log, IsPlaced, next_lsn, are_placed_from, named_lowest}
-use Rattle.frs_disk.specs.Disk.{Image, IsSynced}
+use Rattle.frs_disk.specs.declared.disk.Disk.{Ghosts}
+use Rattle.frs_disk.specs.Disk.{Image}
+use Rattle.frs_disk.specs.Frames.{IsSynced}
 use Rattle.frs_frame.specs.Spelling.{spelling}
 use Rattle.frs_segment.specs.Segments.{Spells}
 use Rattle.frs_segment.specs.Stores.{log_up_to}
-use Rattle.frs_writer.specs.Holds.{ShowsFrom, durable_of, Holds, IsKept}
+use Rattle.frs_writer.specs.Invariant.{ShowsFrom, durable_of, Holds, IsKept}
 use Rattle.frs_writer.specs.Places.{number_of_newest}
 use Rattle.frs_writer.specs.Writer.{WriterView, IsLog, IsWellOpened}
 use Rattle.frs_writer.specs.Writing.{SpellsFrom}
@@ -17,9 +19,9 @@ use Rattle.frs_writer.proofs.Placing.{placed_front, first_below}
 use Rattle.frs_writer.proofs.Segments.{newest_number}
 use Rattle.frs_writer.proofs.Showing.{spells, base_lowest, rests_shows}
 
-module _ {D : Type 0} (tells : D → Bool) (reads : D → Image) (may_leave : D → Image → Type 0) (removing : D → ℕ → Type 0) (w : WriterView D) (kept : IsKept tells reads may_leave removing w)
-    (told : IsTrue (tells w.disk)) (well : IsWellOpened reads may_leave w.opened) (log : Log) (is_log : IsLog reads w log) (placed : IsPlaced log) where
-  held : Holds reads may_leave w log
+module _ {D : Type 0} (g : Ghosts D) (w : WriterView D) (kept : IsKept g w)
+    (told : IsTrue (g.tells w.disk)) (well : IsWellOpened g w.opened) (log : Log) (is_log : IsLog g w log) (placed : IsPlaced log) where
+  held : Holds g w log
   held = kept.holds told well log is_log placed
 
   -- a part that has all records from before the opening begins no later than where its newest one points
@@ -31,7 +33,7 @@ module _ {D : Type 0} (tells : D → Bool) (reads : D → Image) (may_leave : D 
       ap (λ (l : Log). take k l.records) is_log.is ∙ ap (λ (n : ℕ). take n (base ++ is_log.taken)) (omega (arith, enough)) ∙ take-append-add base is_log.taken (k - length base) in
       let all : are_placed_from 0 log.first (take k log.records ++ drop k log.records) ≡ true = subst (λ (l : List Record). are_placed_from 0 log.first l ≡ true) (sym (take-append-drop k log.records)) placed in
       let front : are_placed_from 0 log.first (base ++ more) ≡ true = subst (λ (l : List Record). are_placed_from 0 log.first l ≡ true) parts (placed_front 0 log.first (take k log.records) (drop k log.records) all) in
-      let first : log.first ≡ named_lowest base = ap (λ (l : Log). l.first) is_log.is ∙ base_lowest (entries (reads w.opened)) is_log.spelled.0 is_log.base is_log.spelled.1 in
+      let first : log.first ≡ named_lowest base = ap (λ (l : Log). l.first) is_log.is ∙ base_lowest (entries (g.reads w.opened)) is_log.spelled.0 is_log.base is_log.spelled.1 in
       subst (λ (l : List Record). log.first ≤ named_lowest l) (sym parts) (first_below 0 log.first log.first base more front first (λ none. some (parts ∙ none)))
 
   base_within : (synced : ℕ) → w.taker.first ≤ synced + 1 → is_log.base.first + length is_log.base.records ≤ synced + 1
@@ -47,20 +49,13 @@ module _ {D : Type 0} (tells : D → Bool) (reads : D → Image) (may_leave : D 
         (begins (n + 1 - log.first) (omega (arith, least, base_within synced first, ap (λ (l : Log). l.first) is_log.is))),
   )
 
-  pub durable_spells : w.ended ≡ None → (c : Image) → may_leave w.disk c → Spells (entries c) (log_up_to w.synced log)
+  pub durable_spells : w.ended ≡ None → (c : Image) → g.may_leave w.disk c → Spells (entries c) (log_up_to w.synced log)
   durable_spells fine c left =
       let (last, rests, segments) = held.newest fine in
       spells (entries c) log.first (durable_of w log).records (rests_shows (rests c left))
       (begins (w.synced + 1 - log.first) (omega (arith, base_within w.synced kept.counted.first, ap (λ (l : Log). l.first) is_log.is)))
 
-pub newest_synced : {D : Type 0} (tells : D → Bool) (reads : D → Image) (may_leave : D → Image → Type 0) (removing : D → ℕ → Type 0) (w : WriterView D) (kept : IsKept tells reads may_leave removing w)
-    → w.ended ≡ None → IsTrue (tells w.disk) → IsSynced reads may_leave w.disk (number_of_newest w.segments)
-newest_synced tells reads may_leave removing w kept fine told =
-    subst (λ (n : ℕ). IsSynced reads may_leave w.disk n) (sym (newest_number kept.counted.older kept.counted.newest) ∙ ap number_of_newest (sym kept.counted.segments)) (kept.at_work fine told).durable
-
--- a writer that was left as it was
-pub unchanged_spells : {D : Type 0} (tells : D → Bool) (reads : D → Image) (may_leave : D → Image → Type 0) (removing : D → ℕ → Type 0) (moment : D → ℕ) (left_since : D → ℕ → Image → Type 0)
-    (only_now : (disk : D) (c : Image) → left_since disk (moment disk) c → may_leave disk c) (w : WriterView D) (kept : IsKept tells reads may_leave removing w)
-    → IsTrue (tells w.disk) → IsWellOpened reads may_leave w.opened → (log : Log) → IsLog reads w log → IsPlaced log → (c : Image) → left_since w.disk (moment w.disk) c → SpellsFrom w.synced log c
-unchanged_spells tells reads may_leave removing moment left_since only_now w kept told well log is_log placed c left =
-    spells_from tells reads may_leave removing w kept told well log is_log placed w.synced kept.counted.first c ((kept.holds told well log is_log placed).each c (only_now w.disk c left))
+pub newest_synced : {D : Type 0} (g : Ghosts D) (w : WriterView D) (kept : IsKept g w)
+    → w.ended ≡ None → IsTrue (g.tells w.disk) → IsSynced g w.disk (number_of_newest w.segments)
+newest_synced g w kept fine told =
+    subst (λ (n : ℕ). IsSynced g w.disk n) (sym (newest_number kept.counted.older kept.counted.newest) ∙ ap number_of_newest (sym kept.counted.segments)) (kept.at_work fine told).durable

@@ -6,8 +6,8 @@ use Rattle.frs_types.specs.declared.record.Record.{Record}
 use Rattle.frs_disk.specs.Disk.{Image, SameElsewhere}
 use Rattle.frs_segment.specs.Front.{IsInTheMaking, empty_segment}
 use Rattle.frs_segment.specs.Segments.{WholeSegment, segment_spelling, chunk_bytes, body, is_chunk, end_of}
-use Rattle.frs_writer.specs.Appending.{IsShut, sealed}
-use Rattle.frs_writer.specs.Shown.{ShowsLog, Rests, TakesNext, with_chunk, new_segment}
+use Rattle.frs_writer.specs.Gates.{IsShut, sealed}
+use Rattle.frs_writer.specs.LogImages.{ShowsLog, Rests, TakesNext, with_chunk, new_segment}
 use Rattle.frs_writer.proofs.Showing.{rests_shows, rests_shut, rests_chunk, chunk_spelling, shows_half, shows_next}
 use Rattle.frs_writer.proofs.Images.{changed_last, added_last, nothing_added, rising}
 

@@ -1,15 +1,17 @@
 -- What an image holds that shows a log from LSN 1 on, before which there is nothing.
-use Rattle.std.proofs.Common.{◌≡◌, ℕ, ◌+◌, ◌-◌, Bool, List, [], ◌++◌, length, take, None, refl, sym, ◌∙◌, ap, subst, arith, IsTrue}
+use Rattle.std.proofs.Common.{◌≡◌, ℕ, ◌+◌, ◌-◌, List, [], ◌++◌, length, take, None, refl, sym, ◌∙◌, ap, subst, arith, IsTrue}
 use Rattle.std.specs.List.{AllZip}
 use Rattle.std.specs.FinMap.{entries}
 use Rattle.frs_types.specs.declared.record.Record.{Record}
 use Rattle.frs_types.specs.Records.{Log, IsPlaced}
-use Rattle.frs_disk.specs.Disk.{Image, Within, LeftNoFile}
+use Rattle.frs_disk.specs.declared.disk.Disk.{Ghosts}
+use Rattle.frs_disk.specs.Disk.{Image}
+use Rattle.frs_disk.specs.Frames.{LeftNoFile}
 use Rattle.frs_segment.specs.Order.{IsInOrder}
-use Rattle.frs_segment.proofs.Order.{none_half}
+use Rattle.frs_segment.proofs.IsInOrder.{none_half}
 use Rattle.frs_segment.specs.Segments.{FileList, WholeSegment, IsSegment, open_files, Spells, follow_from}
-use Rattle.frs_writer.specs.Holds.{ShowsFrom, IsKept}
-use Rattle.frs_writer.specs.Shown.{ShowsLog, Rests}
+use Rattle.frs_writer.specs.Invariant.{ShowsFrom, IsKept}
+use Rattle.frs_writer.specs.LogImages.{ShowsLog, Rests}
 use Rattle.frs_writer.specs.Writer.{WriterView, IsLog, WasEmpty, IsWellOpened}
 use Rattle.frs_writer.specs.Writing.{HoldsAll, HoldsLog, HoldsFrom}
 use Rattle.frs_writer.proofs.Showing.{base_shows, rests_shows, rests_open}
@@ -56,15 +58,10 @@ from_whole synced log c (n, least, most, shows) is = (n, least, most, shows_firs
 pub spelled_none : {fresh : Type 0} (image : FileList) → (fresh → image ≡ []) → Spells image (record { first = 1; records = [] }) → HoldsLog fresh 1 image []
 spelled_none image none (segments, by) = shows_whole image 1 [] (base_shows image segments (record { first = 1; records = [] }) none by) refl
 
-module _ {D : Type 0} (tells : D → Bool) (reads : D → Image) (may_leave : D → Image → Type 0) (removing : D → ℕ → Type 0) (w : WriterView D) (kept : IsKept tells reads may_leave removing w)
-    (told : IsTrue (tells w.disk)) (well : IsWellOpened reads may_leave w.opened) (log : Log) (is_log : IsLog reads w log) (placed : IsPlaced log) (empty : WasEmpty reads w.opened) where
+module _ {D : Type 0} (g : Ghosts D) (w : WriterView D) (kept : IsKept g w)
+    (told : IsTrue (g.tells w.disk)) (well : IsWellOpened g w.opened) (log : Log) (is_log : IsLog g w log) (placed : IsPlaced log) (empty : WasEmpty g w.opened) where
   -- what is durable, where nothing was cut short
-  pub durable_whole : w.ended ≡ None → (c : Image) → may_leave w.disk c → HoldsLog (LeftNoFile may_leave w.opened) 0 (entries c) (take w.synced log.records)
+  pub durable_whole : w.ended ≡ None → (c : Image) → g.may_leave w.disk c → HoldsLog (LeftNoFile g w.opened) 0 (entries c) (take w.synced log.records)
   durable_whole fine c left =
       let (last, rests, segments) = (kept.holds told well log is_log placed).newest fine in
       rests_first w.synced log (entries c) last (rests c left) empty
-
-  -- a writer that was left as it was
-  pub unchanged_whole : (moment : D → ℕ) (left_since : D → ℕ → Image → Type 0) → ((disk : D) (c : Image) → left_since disk (moment disk) c → may_leave disk c)
-      → Within moment left_since w.disk w.disk (HoldsFrom (LeftNoFile may_leave w.opened) w.synced log)
-  unchanged_whole moment left_since only_now c left = from_whole w.synced log c ((kept.holds told well log is_log placed).each c (only_now w.disk c left)) empty

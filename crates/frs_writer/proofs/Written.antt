@@ -4,30 +4,32 @@ use Rattle.std.specs.Prelude.{Result, Ok, Err, nat_le, nat_lt, ◌&&◌, take, i
 use Rattle.std.proofs.lemmas.Bool.{cases_lt, lt-ltb, le-ltb, leb-false}
 use Rattle.std.specs.FinMap.{entries, get}
 use Rattle.frs_types.specs.Records.{Log, IsPlaced}
+use Rattle.frs_disk.specs.declared.disk.Disk.{Ghosts}
 use Rattle.frs_disk.specs.declared.disk.Fault.{Fault}
 use Rattle.frs_disk.specs.declared.disk.Fault.TheVariants.{Failed, Memory}
-use Rattle.frs_disk.specs.Disk.{Image, Within, Rose, HasCause, bytes_at, LeftNoFile}
+use Rattle.frs_disk.specs.Disk.{Image, Rose, HasCause, bytes_at}
+use Rattle.frs_disk.specs.Frames.{Within, LeftNoFile}
 use Rattle.frs_segment.specs.declared.layout.Segment.{Segment}
 use Rattle.frs_segment.specs.Segments.{Spells}
 use Rattle.frs_slots.specs.Views.{TakerView}
-use Rattle.frs_writer.specs.Appending.{IsShut, sealed}
+use Rattle.frs_writer.specs.Gates.{IsShut, sealed}
 use Rattle.frs_writer.specs.Groups.{joined_records, GathersGroup, PutsGroup}
-use Rattle.frs_writer.specs.Holds.{ShowsFrom, IsKept}
+use Rattle.frs_writer.specs.Invariant.{ShowsFrom, IsKept}
 use Rattle.frs_segment.specs.Scanning.{places_of_segment}
-use Rattle.frs_writer.specs.Places.{grown, with_newest_grown, length_of_newest, number_of_newest}
-use Rattle.frs_writer.specs.Shown.{new_segment}
+use Rattle.frs_writer.specs.Places.{with_chunk_place, with_newest_grown, length_of_newest, number_of_newest}
+use Rattle.frs_writer.specs.LogImages.{new_segment}
 use Rattle.frs_writer.specs.Writer.{WriterView, IsLog, WasEmpty, IsWellOpened}
-use Rattle.frs_writer.specs.Writing.{is_due, segments_after_roll, Wrote}
+use Rattle.frs_writer.specs.Writing.{is_due, segments_after_roll, WritesGroup}
 use Rattle.frs_writer.proofs.Gathering.{nothing_gathered}
 use Rattle.frs_writer.proofs.Grown.{kept_grown, kept_failed, images_shown, group_within_lsns}
 use Rattle.frs_writer.proofs.Rolled.{kept_same}
 use Rattle.frs_writer.proofs.Segments.{newest_grown, newest_length}
 
 -- the answer and what was put agree
-pub record IsPut {D : Type 0} (tells : D → Bool) (reads : D → Image) (may_leave : D → Image → Type 0) (removing : D → ℕ → Type 0) (moment : D → ℕ) (left_since : D → ℕ → Image → Type 0)
+pub record IsPut {D : Type 0} (g : Ghosts D)
     (old new : D) (before after : Segment) (group : List (List ℕ)) (result : Result ℕ Fault) : Type 0 where
   pub none : length group ≡ 0 → (result ≡ Ok 0) × (new ≡ old) × (after ≡ before)
-  pub some : 1 ≤ length group → PutsGroup tells reads may_leave removing moment left_since old new before after group result
+  pub some : 1 ≤ length group → PutsGroup g old new before after group result
 
 not_err : (count : ℕ) (fault : Fault) (result : Result ℕ Fault) → result ≡ Ok count → result ≡ Err fault → ⊥
 not_err count fault result ok err = let both : Ok count ≡ Err fault = sym ok ∙ err in cc
@@ -35,13 +37,12 @@ not_err count fault result ok err = let both : Ok count ≡ Err fault = sym ok �
 same_count : (a b : ℕ) (result : Result ℕ Fault) → result ≡ Ok a → result ≡ Ok b → a ≡ b
 same_count a b result one other = let both : Ok a ≡ Ok b = sym one ∙ other in cc
 
-module _ {D : Type 0} (tells : D → Bool) (reads : D → Image) (may_leave : D → Image → Type 0) (removing : D → ℕ → Type 0)
-    (moment : D → ℕ) (left_since : D → ℕ → Image → Type 0) (as_read : (disk : D) → IsTrue (tells disk) → may_leave disk (reads disk))
-    (counts_now : (disk : D) (t : ℕ) (c : Image) → t ≤ moment disk → may_leave disk c → left_since disk t c)
-    (only_now : (disk : D) (c : Image) → left_since disk (moment disk) c → may_leave disk c)
-    (w : WriterView D) (kept : IsKept tells reads may_leave removing w) (fine : w.ended ≡ None)
-    (limit : ℕ) (few : limit ≤ 256) (t : TakerView) (still : Option (List ℕ)) (group : List (List ℕ)) (g : GathersGroup limit w.taker t w.kept still group) (d : D)
-    (after : Segment) (result : Result ℕ Fault) (put : IsPut tells reads may_leave removing moment left_since w.disk d kept.counted.newest after group result)
+module _ {D : Type 0} (g : Ghosts D) (as_read : (disk : D) → IsTrue (g.tells disk) → g.may_leave disk (g.reads disk))
+    (counts_now : (disk : D) (t : ℕ) (c : Image) → t ≤ g.moment disk → g.may_leave disk c → g.left_since disk t c)
+    (only_now : (disk : D) (c : Image) → g.left_since disk (g.moment disk) c → g.may_leave disk c)
+    (w : WriterView D) (kept : IsKept g w) (fine : w.ended ≡ None)
+    (limit : ℕ) (few : limit ≤ 256) (t : TakerView) (still : Option (List ℕ)) (group : List (List ℕ)) (gathered : GathersGroup limit w.taker t w.kept still group) (d : D)
+    (after : Segment) (result : Result ℕ Fault) (put : IsPut g w.disk d kept.counted.newest after group result)
     (short : 1 ≤ length group → kept.counted.newest.length < 2 ^ 20) where
   abbrev pub newest : Segment
   newest = kept.counted.newest
@@ -49,96 +50,96 @@ module _ {D : Type 0} (tells : D → Bool) (reads : D → Image) (may_leave : D 
   abbrev pub view : List Segment → ℕ → Option Fault → WriterView D
   view segments synced ended = record { opened = w.opened; disk = d; taker = t; kept = still; segments = segments; noted = w.noted; synced = synced; ended = ended }
 
-  images_of : (some : 1 ≤ length group) → IsTrue (tells w.disk) → Within moment left_since w.disk d (λ c. IsShut (take (newest.length - 1) (bytes_at (reads w.disk) newest.number)) (get c newest.number)
-      ⊎ (get c newest.number ≡ Some (take (newest.length - 1) (bytes_at (reads w.disk) newest.number) ++ 1 ∷ sealed (w.synced + 1) (length group) (joined_records group))))
-  images_of some told = subst (λ (n : ℕ). Within moment left_since w.disk d (λ c. IsShut (take (newest.length - 1) (bytes_at (reads w.disk) newest.number)) (get c newest.number)
-      ⊎ (get c newest.number ≡ Some (take (newest.length - 1) (bytes_at (reads w.disk) newest.number) ++ 1 ∷ sealed n (length group) (joined_records group))))) kept.counted.ends ((put.some some).images told)
+  images_of : (some : 1 ≤ length group) → IsTrue (g.tells w.disk) → Within g w.disk d (λ c. IsShut (take (newest.length - 1) (bytes_at (g.reads w.disk) newest.number)) (get c newest.number)
+      ⊎ (get c newest.number ≡ Some (take (newest.length - 1) (bytes_at (g.reads w.disk) newest.number) ++ 1 ∷ sealed (w.synced + 1) (length group) (joined_records group))))
+  images_of some told = subst (λ (n : ℕ). Within g w.disk d (λ c. IsShut (take (newest.length - 1) (bytes_at (g.reads w.disk) newest.number)) (get c newest.number)
+      ⊎ (get c newest.number ≡ Some (take (newest.length - 1) (bytes_at (g.reads w.disk) newest.number) ++ 1 ∷ sealed n (length group) (joined_records group))))) kept.counted.ends ((put.some some).images told)
 
-  pub err_kept : (fault : Fault) → result ≡ Err fault → (segments : List Segment) → segments ≡ kept.counted.older ++ after ∷ [] → IsKept tells reads may_leave removing (view segments w.synced (Some fault))
+  pub err_kept : (fault : Fault) → result ≡ Err fault → (segments : List Segment) → segments ≡ kept.counted.older ++ after ∷ [] → IsKept g (view segments w.synced (Some fault))
   err_kept fault is segments are = elim (cases_lt 0 (length group)) [
     | inl lt ↦
         let some : 1 ≤ length group = omega (arith, lt) in
-        let p : PutsGroup tells reads may_leave removing moment left_since w.disk d newest after group (Err fault) = subst (λ (r : Result ℕ Fault). PutsGroup tells reads may_leave removing moment left_since w.disk d newest after group r) is (put.some some) in
-        subst (λ (s : List Segment). IsKept tells reads may_leave removing (view s w.synced (Some fault))) (kept.counted.segments ∙ ap (λ (s : Segment). kept.counted.older ++ s ∷ []) (sym p.refused) ∙ sym are)
-        (kept_failed tells reads may_leave removing moment left_since as_read counts_now w kept fine limit t still group g d p.time.later p.told (omega (arith, g.most, few)) some p.elsewhere (images_of some) fault)
+        let p : PutsGroup g w.disk d newest after group (Err fault) = subst (λ (r : Result ℕ Fault). PutsGroup g w.disk d newest after group r) is (put.some some) in
+        subst (λ (s : List Segment). IsKept g (view s w.synced (Some fault))) (kept.counted.segments ∙ ap (λ (s : Segment). kept.counted.older ++ s ∷ []) (sym p.refused) ∙ sym are)
+        (kept_failed g as_read counts_now w kept fine limit t still group gathered d p.frame (omega (arith, gathered.most, few)) some (images_of some) fault)
     | inr ge ↦ absurd (not_err 0 fault result (put.none (omega (arith, ge))).0 is)
   ]
 
-  pub ok_kept : (count : ℕ) → result ≡ Ok count → (segments : List Segment) → segments ≡ kept.counted.older ++ after ∷ [] → IsKept tells reads may_leave removing (view segments (w.synced + count) w.ended)
-  ok_kept count is segments are = subst (λ (e : Option Fault). IsKept tells reads may_leave removing (view segments (w.synced + count) e)) (sym fine) (elim (cases_lt 0 (length group)) [
+  pub ok_kept : (count : ℕ) → result ≡ Ok count → (segments : List Segment) → segments ≡ kept.counted.older ++ after ∷ [] → IsKept g (view segments (w.synced + count) w.ended)
+  ok_kept count is segments are = subst (λ (e : Option Fault). IsKept g (view segments (w.synced + count) e)) (sym fine) (elim (cases_lt 0 (length group)) [
     | inl lt ↦
         let some : 1 ≤ length group = omega (arith, lt) in
-        let p : PutsGroup tells reads may_leave removing moment left_since w.disk d newest after group (Ok count) = subst (λ (r : Result ℕ Fault). PutsGroup tells reads may_leave removing moment left_since w.disk d newest after group r) is (put.some some) in
+        let p : PutsGroup g w.disk d newest after group (Ok count) = subst (λ (r : Result ℕ Fault). PutsGroup g w.disk d newest after group r) is (put.some some) in
         let same : with_newest_grown (length group) (length (joined_records group)) w.segments ≡ segments =
         ap (with_newest_grown (length group) (length (joined_records group))) kept.counted.segments ∙ newest_grown (length group) (length (joined_records group)) kept.counted.older newest
         ∙ ap (λ (s : Segment). kept.counted.older ++ s ∷ []) (sym p.grown_is) ∙ sym are in
-        subst (λ (n : ℕ). IsKept tells reads may_leave removing (view segments (w.synced + n) None)) (sym p.counted)
-        (subst (λ (s : List Segment). IsKept tells reads may_leave removing (view s (w.synced + length group) None)) same
-        (kept_grown tells reads may_leave removing moment left_since as_read counts_now w kept fine limit t still group g d p.time.later p.told (omega (arith, g.most, few)) some p.elsewhere (images_of some)
-        (short some) p.durable p.others p.pending
-        (λ told. subst (λ (n : ℕ). get (reads d) newest.number ≡ Some (take (newest.length - 1) (bytes_at (reads w.disk) newest.number) ++ 1 ∷ sealed n (length group) (joined_records group))) kept.counted.ends (p.written told))))
+        subst (λ (n : ℕ). IsKept g (view segments (w.synced + n) None)) (sym p.counted)
+        (subst (λ (s : List Segment). IsKept g (view s (w.synced + length group) None)) same
+        (kept_grown g as_read counts_now w kept fine limit t still group gathered d p.frame (omega (arith, gathered.most, few)) some (images_of some)
+        (short some) p.durable
+        (λ told. subst (λ (n : ℕ). get (g.reads d) newest.number ≡ Some (take (newest.length - 1) (bytes_at (g.reads w.disk) newest.number) ++ 1 ∷ sealed n (length group) (joined_records group))) kept.counted.ends (p.written told))))
     | inr ge ↦
         let none : length group ≡ 0 = omega (arith, ge) in
         let (ok, same_disk, same_segment) = put.none none in
-        let (was, now, taken) = nothing_gathered limit w.taker t w.kept still group g none in
+        let (was, now, taken) = nothing_gathered limit w.taker t w.kept still group gathered none in
         let zero : count ≡ 0 = same_count count 0 result is ok in
         let same : w.segments ≡ segments = kept.counted.segments ∙ ap (λ (s : Segment). kept.counted.older ++ s ∷ []) (sym same_segment) ∙ sym are in
-        let taken_up : IsKept tells reads may_leave removing (record w { taker = t }) = kept_same tells reads may_leave removing w t g.ring.1 taken kept in
-        let plain : IsKept tells reads may_leave removing (record { opened = w.opened; disk = w.disk; taker = t; kept = w.kept; segments = w.segments; noted = w.noted; synced = w.synced; ended = w.ended }) = taken_up in
-        let a : IsKept tells reads may_leave removing (record { opened = w.opened; disk = d; taker = t; kept = w.kept; segments = w.segments; noted = w.noted; synced = w.synced; ended = w.ended }) =
-        subst (λ (x : D). IsKept tells reads may_leave removing (record { opened = w.opened; disk = x; taker = t; kept = w.kept; segments = w.segments; noted = w.noted; synced = w.synced; ended = w.ended })) (sym same_disk) plain in
-        let b : IsKept tells reads may_leave removing (view w.segments w.synced w.ended) =
-        subst (λ (x : Option (List ℕ)). IsKept tells reads may_leave removing (record { opened = w.opened; disk = d; taker = t; kept = x; segments = w.segments; noted = w.noted; synced = w.synced; ended = w.ended })) (was ∙ sym now) a in
-        let e : IsKept tells reads may_leave removing (view segments w.synced w.ended) = subst (λ (s : List Segment). IsKept tells reads may_leave removing (view s w.synced w.ended)) same b in
-        let f : IsKept tells reads may_leave removing (view segments (w.synced + count) w.ended) = subst (λ (n : ℕ). IsKept tells reads may_leave removing (view segments n w.ended)) (omega (arith, zero)) e in
-        subst (λ (x : Option Fault). IsKept tells reads may_leave removing (view segments (w.synced + count) x)) fine f
+        let taken_up : IsKept g (record w { taker = t }) = kept_same g w t gathered.ring.1 taken kept in
+        let plain : IsKept g (record { opened = w.opened; disk = w.disk; taker = t; kept = w.kept; segments = w.segments; noted = w.noted; synced = w.synced; ended = w.ended }) = taken_up in
+        let a : IsKept g (record { opened = w.opened; disk = d; taker = t; kept = w.kept; segments = w.segments; noted = w.noted; synced = w.synced; ended = w.ended }) =
+        subst (λ (x : D). IsKept g (record { opened = w.opened; disk = x; taker = t; kept = w.kept; segments = w.segments; noted = w.noted; synced = w.synced; ended = w.ended })) (sym same_disk) plain in
+        let b : IsKept g (view w.segments w.synced w.ended) =
+        subst (λ (x : Option (List ℕ)). IsKept g (record { opened = w.opened; disk = d; taker = t; kept = x; segments = w.segments; noted = w.noted; synced = w.synced; ended = w.ended })) (was ∙ sym now) a in
+        let e : IsKept g (view segments w.synced w.ended) = subst (λ (s : List Segment). IsKept g (view s w.synced w.ended)) same b in
+        let f : IsKept g (view segments (w.synced + count) w.ended) = subst (λ (n : ℕ). IsKept g (view segments n w.ended)) (omega (arith, zero)) e in
+        subst (λ (x : Option Fault). IsKept g (view segments (w.synced + count) x)) fine f
   ])
 
-  pub put_images : (w' : WriterView D) → w'.opened ≡ w.opened → w'.taker ≡ t → IsTrue (tells w.disk) → IsWellOpened reads may_leave w.opened → (log' : Log) → IsLog reads w' log' → IsPlaced log'
-      → Within moment left_since w.disk d (λ c. ShowsFrom (WasEmpty reads w.opened) (LeftNoFile may_leave w.opened) w.synced log' (entries c))
+  pub put_images : (w' : WriterView D) → w'.opened ≡ w.opened → w'.taker ≡ t → IsTrue (g.tells w.disk) → IsWellOpened g w.opened → (log' : Log) → IsLog g w' log' → IsPlaced log'
+      → Within g w.disk d (λ c. ShowsFrom (WasEmpty g w.opened) (LeftNoFile g w.opened) w.synced log' (entries c))
   put_images w' same taker told well log' is_log placed = elim (cases_lt 0 (length group)) [
     | inl lt ↦
         let some : 1 ≤ length group = omega (arith, lt) in
         let p = put.some some in
-        images_shown tells reads may_leave removing moment left_since as_read counts_now w kept fine limit t still group g d p.time.later p.told (omega (arith, g.most, few)) some p.elsewhere (images_of some)
+        images_shown g as_read counts_now w kept fine limit t still group gathered d p.frame (omega (arith, gathered.most, few)) some (images_of some)
         w' same taker told well log' is_log placed
     | inr ge ↦
         let none : length group ≡ 0 = omega (arith, ge) in
         let (ok, same_disk, same_segment) = put.none none in
-        let (was, now, taken) = nothing_gathered limit w.taker t w.kept still group g none in
-        let l : IsLog reads w log' = record {
+        let (was, now, taken) = nothing_gathered limit w.taker t w.kept still group gathered none in
+        let l : IsLog g w log' = record {
           base = is_log.base;
-          spelled = subst (λ (o : D). Spells (entries (reads o)) is_log.base) same is_log.spelled;
+          spelled = subst (λ (o : D). Spells (entries (g.reads o)) is_log.base) same is_log.spelled;
           taken = is_log.taken;
           bytes = sym (ap (λ (v : TakerView). v.taken) taker ∙ taken) ∙ is_log.bytes;
           is = is_log.is;
         } in
-        λ c left. (kept.holds told well log' l placed).each c (only_now w.disk c (subst (λ (x : D). left_since x (moment w.disk) c) same_disk left))
+        λ c left. (kept.holds told well log' l placed).each c (only_now w.disk c (subst (λ (x : D). g.left_since x (g.moment w.disk) c) same_disk left))
   ]
 
   pub put_counted : (count : ℕ) → result ≡ Ok count → count ≡ length group
   put_counted count is = elim (cases_lt 0 (length group)) [
     | inl lt ↦
         let some : 1 ≤ length group = omega (arith, lt) in
-        (subst (λ (r : Result ℕ Fault). PutsGroup tells reads may_leave removing moment left_since w.disk d newest after group r) is (put.some some)).counted
+        (subst (λ (r : Result ℕ Fault). PutsGroup g w.disk d newest after group r) is (put.some some)).counted
     | inr ge ↦ same_count count 0 result is (put.none (omega (arith, ge))).0 ∙ omega (arith, ge)
   ]
 
   -- what was written, as one sees it who saw the writer before it went on to this segment
   pub put_wrote : (count : ℕ) → result ≡ Ok count → (w0 : WriterView D) → w0.taker ≡ w.taker → w0.kept ≡ w.kept → w0.synced ≡ w.synced → segments_after_roll w0 ≡ w.segments
-      → (segments : List Segment) → segments ≡ kept.counted.older ++ after ∷ [] → (ended : Option Fault) (synced : ℕ) → synced ≡ w.synced + count → Wrote limit count w0 (view segments synced ended)
+      → (segments : List Segment) → segments ≡ kept.counted.older ++ after ∷ [] → (ended : Option Fault) (synced : ℕ) → synced ≡ w.synced + count → WritesGroup limit count w0 (view segments synced ended)
   put_wrote count is w0 taker kept_same_one synced_same rolls segments are ended synced synced_is = record {
     group = group;
-    gathers = subst (λ (v : TakerView). GathersGroup limit v t w0.kept still group) (sym taker) (subst (λ (o : Option (List ℕ)). GathersGroup limit w.taker t o still group) (sym kept_same_one) g);
+    gathers = subst (λ (v : TakerView). GathersGroup limit v t w0.kept still group) (sym taker) (subst (λ (o : Option (List ℕ)). GathersGroup limit w.taker t o still group) (sym kept_same_one) gathered);
     counted = put_counted count is;
-    none = λ zero. let (was, now, taken) = nothing_gathered limit w.taker t w.kept still group g (sym (put_counted count is) ∙ zero) in (kept_same_one ∙ was, now);
+    none = λ zero. let (was, now, taken) = nothing_gathered limit w.taker t w.kept still group gathered (sym (put_counted count is) ∙ zero) in (kept_same_one ∙ was, now);
     synced = synced_is ∙ ap (λ (n : ℕ). n + count) (sym synced_same);
     segments = elim (cases_lt 0 (length group)) [
       | inl lt ↦
           let some : 1 ≤ length group = omega (arith, lt) in
-          let p : PutsGroup tells reads may_leave removing moment left_since w.disk d newest after group (Ok count) = subst (λ (r : Result ℕ Fault). PutsGroup tells reads may_leave removing moment left_since w.disk d newest after group r) is (put.some some) in
+          let p : PutsGroup g w.disk d newest after group (Ok count) = subst (λ (r : Result ℕ Fault). PutsGroup g w.disk d newest after group r) is (put.some some) in
           are ∙ ap (λ (s : Segment). kept.counted.older ++ s ∷ []) p.grown_is
-          ∙ ap (λ (n : ℕ). kept.counted.older ++ grown n (length (joined_records group)) newest ∷ []) (sym p.counted)
+          ∙ ap (λ (n : ℕ). kept.counted.older ++ with_chunk_place n (length (joined_records group)) newest ∷ []) (sym p.counted)
           ∙ sym (newest_grown count (length (joined_records group)) kept.counted.older newest)
           ∙ ap (with_newest_grown count (length (joined_records group))) (sym kept.counted.segments ∙ sym rolls)
           ∙ ap (λ (b : Bool). if b then with_newest_grown count (length (joined_records group)) (segments_after_roll w0) else segments_after_roll w0) (sym (lt-ltb 0 count (omega (arith, p.counted, lt))))
@@ -152,10 +153,10 @@ module _ {D : Type 0} (tells : D → Bool) (reads : D → Image) (may_leave : D 
   }
 
 -- where no new segment is due there is room for a group that there is
-pub short_here : {D : Type 0} (tells : D → Bool) (reads : D → Image) (may_leave : D → Image → Type 0) (removing : D → ℕ → Type 0) (w : WriterView D) (kept : IsKept tells reads may_leave removing w) (fine : w.ended ≡ None)
-    (limit : ℕ) (t : TakerView) (still : Option (List ℕ)) (group : List (List ℕ)) (g : GathersGroup limit w.taker t w.kept still group) → is_due w ≡ false → 1 ≤ length group → kept.counted.newest.length < 2 ^ 20
-short_here tells reads may_leave removing w kept fine limit t still group g here some =
-    let room : w.synced + 1 < 2 ^ 62 = omega (arith, some, group_within_lsns w kept.counted limit t still group g fine, g.within kept.counted.most) in
+pub short_here : {D : Type 0} (g : Ghosts D) (w : WriterView D) (kept : IsKept g w) (fine : w.ended ≡ None)
+    (limit : ℕ) (t : TakerView) (still : Option (List ℕ)) (group : List (List ℕ)) (gathered : GathersGroup limit w.taker t w.kept still group) → is_due w ≡ false → 1 ≤ length group → kept.counted.newest.length < 2 ^ 20
+short_here g w kept fine limit t still group gathered here some =
+    let room : w.synced + 1 < 2 ^ 62 = omega (arith, some, group_within_lsns w kept.counted limit t still group gathered fine, gathered.within kept.counted.most) in
     leb-false (2 ^ 20) kept.counted.newest.length (left_false _ _ (lt-ltb (w.synced + 1) (2 ^ 62) room)
     (sym (ap (λ (n : ℕ). nat_le (2 ^ 20) n && nat_lt (w.synced + 1) (2 ^ 62)) (ap length_of_newest kept.counted.segments ∙ newest_length kept.counted.older kept.counted.newest)) ∙ here))
   where
@@ -167,8 +168,11 @@ short_here tells reads may_leave removing w kept fine limit t still group g here
 pub not_due : {D : Type 0} (w : WriterView D) → is_due w ≡ false → segments_after_roll w ≡ w.segments
 not_due w here = ap (λ (b : Bool). if b then w.segments ++ places_of_segment (new_segment (number_of_newest w.segments + 1) (w.synced + 1)) ∷ [] else w.segments) here
 
-pub due : {D : Type 0} (w : WriterView D) → is_due w ≡ true → segments_after_roll w ≡ w.segments ++ places_of_segment (new_segment (number_of_newest w.segments + 1) (w.synced + 1)) ∷ []
+due : {D : Type 0} (w : WriterView D) → is_due w ≡ true → segments_after_roll w ≡ w.segments ++ places_of_segment (new_segment (number_of_newest w.segments + 1) (w.synced + 1)) ∷ []
 due w there = ap (λ (b : Bool). if b then w.segments ++ places_of_segment (new_segment (number_of_newest w.segments + 1) (w.synced + 1)) ∷ [] else w.segments) there
+
+pub after_roll : {D : Type 0} (w : WriterView D) (n : ℕ) → is_due w ≡ true → number_of_newest w.segments + 1 ≡ n → w.segments ++ places_of_segment (new_segment n (w.synced + 1)) ∷ [] ≡ segments_after_roll w
+after_roll w n there number = ap (λ (k : ℕ). w.segments ++ places_of_segment (new_segment k (w.synced + 1)) ∷ []) (sym number) ∙ sym (due w there)
 
 -- ---- faults
 

@@ -1,14 +1,18 @@
 -- The records that one chunk gets.
-use Rattle.std.specs.Prelude.{◌≡◌, ◌⊎◌, ℕ, ◌+◌, ◌-◌, ◌^◌, ◌<◌, ◌≤◌, Bool, List, ◌∷◌, ◌++◌, length, take, flat_map, replicate, Option, Some, None, IfSome, Result, IfOk, OnOk, OnErr, IsTrue}
+use Rattle.std.specs.Prelude.{◌≡◌, ◌⊎◌, ℕ, ◌+◌, ◌-◌, ◌<◌, ◌≤◌, List, ◌∷◌, ◌++◌, length, take, flat_map, replicate, Option, Some, None, IfSome, Result, IfOk, OnOk, OnErr, IsTrue}
 use Rattle.std.specs.FinMap.{get}
 use Rattle.std.specs.Option.{option_to_list}
 use Rattle.frs_slots.specs.Views.{TakerView, next_taken, Took}
+use Rattle.frs_disk.specs.declared.disk.Disk.{Ghosts}
 use Rattle.frs_disk.specs.declared.disk.Fault.{Fault}
-use Rattle.frs_disk.specs.Disk.{Image, AgreesElsewhere, SameElsewhere, IsSynced, Within, Passes, bytes_at}
+use Rattle.frs_disk.specs.Disk.{bytes_at}
+use Rattle.frs_disk.specs.Frames.{IsSynced, Within, ChangesOneFile}
+use Rattle.frs_types.specs.declared.limits.TheConstants.{NUMBER_LIMIT}
+use Rattle.frs_segment.specs.declared.format.TheConstants.{BODY_LIMIT, CHUNK_HEAD}
 use Rattle.frs_segment.specs.declared.layout.Segment.{Segment}
-use Rattle.frs_writer.specs.Appending.{IsShut, sealed}
+use Rattle.frs_writer.specs.Gates.{IsShut, sealed}
 use Rattle.frs_writer.specs.Chunk.{ChunkView}
-use Rattle.frs_writer.specs.Places.{grown}
+use Rattle.frs_writer.specs.Places.{with_chunk_place}
 
 -- the bytes of records, one after another
 abbrev pub joined_records : List (List ℕ) → List ℕ
@@ -16,18 +20,18 @@ joined_records group = flat_map (λ (bytes : List ℕ). bytes) group
 
 -- with this record behind them the records would have more than 1 MiB
 abbrev pub IsTooLong : List (List ℕ) → List ℕ → Type 0
-IsTooLong group bytes = 2 ^ 20 < length (joined_records group) + length bytes
+IsTooLong group bytes = BODY_LIMIT < length (joined_records group) + length bytes
 
 -- So far these records were taken into a chunk, behind the one that was kept from before.
 pub record Gathered (before now : TakerView) (kept : Option (List ℕ)) (group : List (List ℕ)) : Type 0 where
   pub ring : (now.ring ≡ before.ring) × (now.first ≡ before.first)
   pub known : before.known ≤ now.known
   pub sure : before.sure ≤ now.sure
-  pub within : next_taken before ≤ 2 ^ 62 → next_taken now ≤ 2 ^ 62
+  pub within : next_taken before ≤ NUMBER_LIMIT → next_taken now ≤ NUMBER_LIMIT
   pub taken : List (List ℕ)
   pub taken_are : now.taken ≡ before.taken ++ taken
   pub group_is : group ≡ option_to_list kept ++ taken
-  pub fits : length (joined_records group) ≤ 2 ^ 20
+  pub fits : length (joined_records group) ≤ BODY_LIMIT
 
 -- The records of one chunk, at most so many: the one that was kept before, and then those that were taken. They end at
 -- the limit, or before a record that doesn't fit, which was taken and is kept, or where no more are known.
@@ -35,48 +39,48 @@ pub record GathersGroup (limit : ℕ) (before now : TakerView) (kept still : Opt
   pub ring : (now.ring ≡ before.ring) × (now.first ≡ before.first)
   pub known : before.known ≤ now.known
   pub sure : before.sure ≤ now.sure
-  pub within : next_taken before ≤ 2 ^ 62 → next_taken now ≤ 2 ^ 62
+  pub within : next_taken before ≤ NUMBER_LIMIT → next_taken now ≤ NUMBER_LIMIT
   pub taken : List (List ℕ)
   pub taken_are : now.taken ≡ before.taken ++ taken
   pub group_is : group ++ option_to_list still ≡ option_to_list kept ++ taken
   pub most : length group ≤ limit
-  pub fits : length (joined_records group) ≤ 2 ^ 20
+  pub fits : length (joined_records group) ≤ BODY_LIMIT
   pub too_long : IfSome still (λ bytes. IsTooLong group bytes × (length bytes ≤ 65883))
   pub stops : (length group ≡ limit) ⊎ ((still ≡ None) → now.known ≡ length now.taken)
 
 -- the chunk has these records, and its head isn't written yet
 abbrev pub HasGroup : ChunkView → List (List ℕ) → Type 0
-HasGroup chunk group = chunk ≡ record { count = length group; bytes = replicate 16 0 ++ joined_records group }
+HasGroup chunk group = chunk ≡ record { count = length group; bytes = replicate CHUNK_HEAD 0 ++ joined_records group }
 
 -- One more record was taken, and is in the chunk.
 pub record Added (before now : TakerView) (chunk after : ChunkView) : Type 0 where
   pub bytes : List ℕ
   pub took : Took before bytes now
-  pub within : next_taken before < 2 ^ 62
-  pub fits : length chunk.bytes + length bytes ≤ 2 ^ 20 + 16
+  pub within : next_taken before < NUMBER_LIMIT
+  pub fits : length chunk.bytes + length bytes ≤ BODY_LIMIT + CHUNK_HEAD
   pub added : after ≡ record { count = chunk.count + 1; bytes = chunk.bytes ++ bytes }
 
 -- No more is known, or one more was taken that doesn't fit, and is kept.
 pub record Stopped (before now : TakerView) (still : Option (List ℕ)) (chunk after : ChunkView) : Type 0 where
   pub chunk_is : after ≡ chunk
   pub why : ((still ≡ None) × (now ≡ before) × (before.known ≡ length before.taken))
-      ⊎ ((bytes : List ℕ) × (still ≡ Some bytes) × Took before bytes now × (next_taken before < 2 ^ 62) × (2 ^ 20 + 16 < length chunk.bytes + length bytes) × (length bytes ≤ 65883))
+      ⊎ ((bytes : List ℕ) × (still ≡ Some bytes) × Took before bytes now × (next_taken before < NUMBER_LIMIT)
+      × (BODY_LIMIT + CHUNK_HEAD < length chunk.bytes + length bytes) × (length bytes ≤ 65883))
 
 -- ---- the disk
 
 -- The group was put behind the gate at the end of the segment, or a crash or a fault has come before its gate was open.
-pub record PutsGroup {D : Type 0} (tells : D → Bool) (reads : D → Image) (may_leave : D → Image → Type 0) (removing : D → ℕ → Type 0) (moment : D → ℕ) (left_since : D → ℕ → Image → Type 0)
-    (old new : D) (before after : Segment) (group : List (List ℕ)) (result : Result ℕ Fault) : Type 0 where
-  pub told : tells new ≡ tells old
-  pub time : Passes moment left_since old new
-  pub pending : (n : ℕ) → removing new n → removing old n
-  pub elsewhere : Within moment left_since old new (AgreesElsewhere before.number (may_leave old))
-  pub others : IsTrue (tells old) → SameElsewhere before.number (reads old) (reads new)
-  pub images : IsTrue (tells old) → Within moment left_since old new (λ c. IsShut (take (before.length - 1) (bytes_at (reads old) before.number)) (get c before.number)
-      ⊎ (get c before.number ≡ Some (take (before.length - 1) (bytes_at (reads old) before.number) ++ 1 ∷ sealed before.«end» (length group) (joined_records group))))
+pub record PutsGroup {D : Type 0} (g : Ghosts D) (old new : D) (before after : Segment) (group : List (List ℕ))
+    (result : Result ℕ Fault) : Type 0 where
+  pub frame : ChangesOneFile g before.number old new
+  pub images : IsTrue (g.tells old) → Within g old new (λ c.
+      IsShut (take (before.length - 1) (bytes_at (g.reads old) before.number)) (get c before.number)
+      ⊎ (get c before.number ≡ Some (take (before.length - 1) (bytes_at (g.reads old) before.number)
+      ++ 1 ∷ sealed before.«end» (length group) (joined_records group))))
   pub counted : IfOk result (λ count. count ≡ length group)
-  pub grown_is : OnOk result (after ≡ grown (length group) (length (joined_records group)) before)
-  pub durable : OnOk result (IsSynced reads may_leave new before.number)
-  pub written : OnOk result (IsTrue (tells old)
-      → get (reads new) before.number ≡ Some (take (before.length - 1) (bytes_at (reads old) before.number) ++ 1 ∷ sealed before.«end» (length group) (joined_records group)))
+  pub grown_is : OnOk result (after ≡ with_chunk_place (length group) (length (joined_records group)) before)
+  pub durable : OnOk result (IsSynced g new before.number)
+  pub written : OnOk result (IsTrue (g.tells old) → get (g.reads new) before.number
+      ≡ Some (take (before.length - 1) (bytes_at (g.reads old) before.number)
+      ++ 1 ∷ sealed before.«end» (length group) (joined_records group)))
   pub refused : OnErr result (after ≡ before)

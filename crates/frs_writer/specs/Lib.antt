@@ -1,10 +1,10 @@
-pub mod Appending
 pub mod Chunk
+pub mod Gates
 pub mod Groups
-pub mod Holds
 pub mod Inside
-pub mod Opening
+pub mod Invariant
+pub mod LogImages
 pub mod Places
-pub mod Shown
+pub mod Setup
 pub mod Writer
 pub mod Writing

@@ -3,6 +3,7 @@ use Rattle.std.specs.Prelude.{◌≡◌, ℕ, List, [], ◌++◌, map, Option}
 use Rattle.std.specs.FinMap.{entries}
 use Rattle.frs_types.specs.declared.record.Record.{Record}
 use Rattle.frs_types.specs.Records.{Log}
+use Rattle.frs_disk.specs.declared.disk.Disk.{Ghosts}
 use Rattle.frs_disk.specs.declared.disk.Fault.{Fault}
 use Rattle.frs_disk.specs.Disk.{Image}
 use Rattle.frs_frame.specs.Spelling.{spelling}
@@ -24,17 +25,17 @@ pub record WriterView (D : Type 0) : Type 0 where
 -- ---- the log
 
 -- What the disk spelled at the opening, and then the records that were taken.
-pub record IsLog {D : Type 0} (reads : D → Image) (w : WriterView D) (log : Log) : Type 0 where
+pub record IsLog {D : Type 0} (g : Ghosts D) (w : WriterView D) (log : Log) : Type 0 where
   pub base : Log
-  pub spelled : Spells (entries (reads w.opened)) base
+  pub spelled : Spells (entries (g.reads w.opened)) base
   pub taken : List Record
   pub bytes : w.taker.taken ≡ map spelling taken
   pub is : log ≡ record base { records = base.records ++ taken }
 
 -- the log was empty at the opening
-abbrev pub WasEmpty : {D : Type 0} → (D → Image) → D → Type 0
-WasEmpty reads opened = Spells (entries (reads opened)) (record { first = 1; records = [] })
+abbrev pub WasEmpty : {D : Type 0} → Ghosts D → D → Type 0
+WasEmpty g opened = Spells (entries (g.reads opened)) (record { first = 1; records = [] })
 
 -- each image that a crash could leave at the opening said what was read
-abbrev pub IsWellOpened : {D : Type 0} → (D → Image) → (D → Image → Type 0) → D → Type 0
-IsWellOpened reads may_leave opened = (c : Image) → may_leave opened c → SpellsAlike (entries (reads opened)) (entries c)
+abbrev pub IsWellOpened : {D : Type 0} → Ghosts D → D → Type 0
+IsWellOpened g opened = (c : Image) → g.may_leave opened c → SpellsAlike (entries (g.reads opened)) (entries c)

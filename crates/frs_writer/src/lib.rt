@@ -2,13 +2,11 @@
 //! durable.
 #![tactic(auto)]
 
-mod append;
 mod chunk;
 mod fault;
-mod gather;
-mod newest;
-mod opening;
-mod parts;
+mod group;
+mod setup;
+mod tail;
 mod writer;
 
 pub use fault::{NotYet, Refused, WriteFault};

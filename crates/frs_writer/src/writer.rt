@@ -1,38 +1,32 @@
 // The writer of the log.
-ghost use Rattle.std.specs.Prelude.{◌≡◌, ◌≢◌, ◌↔◌, ◌+◌, ◌-◌, ◌<◌, ◌≤◌, ◌^◌, ◌++◌, ℕ, List, [], ◌∷◌, true, false, None, IsTrue, IsOk, IsErrOf, IfOk, IfErr, OnOk, OnErr, length, take, min, replicate, slice_index, slice_set};
+ghost use Rattle.std.specs.Prelude.{◌≡◌, ◌≢◌, ◌↔◌, ◌+◌, ◌-◌, ◌<◌, ◌≤◌, ◌^◌, ◌++◌, ℕ, List, [], ◌∷◌, true, false, None, IsTrue, IsOk, IsErrOf, IfOk, IfErr, IfSome, OnOk, OnErr, vec_len, vec_capacity, length, take, min, replicate, slice_index, slice_set};
 ghost use Rattle.std.specs.FinMap.{entries};
 ghost use mathlib.Core.List.{IsPrefix};
 ghost use Rattle.frs_types.specs.Records.{Log};
-ghost use Rattle.frs_disk.specs.Disk.{Image, IsSynced, Passes, Within, Rose, NoneRemovedAbove, LeftNoFile};
+ghost use Rattle.frs_disk.specs.Frames.{GoesOn, NoneRemovedAbove};
 ghost use Rattle.frs_segment.specs.Segments.{WholeSegment, Spells};
 ghost use Rattle.frs_segment.specs.Stores.{IsFound, log_up_to};
 ghost use Rattle.frs_segment.specs.Scanning.{places_of_segment};
 ghost use Rattle.frs_slots.specs.Views.{AreOfOneRing, IsTakenUp, HasRoom};
 ghost use Rattle.frs_writer.specs.declared.fault.WriteFault.TheVariants.{NumberLimit};
-ghost use Rattle.frs_writer.specs.Places.{number_of_newest};
-ghost use Rattle.frs_writer.specs.Shown.{new_segment};
-ghost use Rattle.frs_writer.specs.Writer.{WasEmpty, IsWellOpened};
-ghost use Rattle.frs_writer.specs.Writing.{is_due, Wrote, SpellsFrom, HoldsLog, HoldsFrom, OfPlacedLog, HasOpeningCause, HasWriteCause};
+ghost use Rattle.frs_writer.specs.Places.{number_of_newest, chunks_of_newest};
+ghost use Rattle.frs_writer.specs.LogImages.{new_segment};
+ghost use Rattle.frs_writer.specs.Writing.{is_due, IsRolled, WritesGroup, TakesMore, LeavesFound, IsDurableAtOpening, LeavesLog, LeavesShown, IsDurable, HasOpeningCause, HasWriteCause, HasPutCause};
 
 use crate::chunk::Chunk;
 use crate::fault::{NotYet, Refused, WriteFault};
-use crate::newest::{places_with_room, put_group};
-use crate::opening::open_next;
-use crate::parts::{EMPTY_LENGTH, Parts};
+use crate::setup::{Buffers, open_next};
+use crate::tail::{put_group, take_places};
 use frs_disk::{Disk, Fault};
 use frs_frame::Framed;
-use frs_segment::{Found, Places, Segment, one_log, open_segment};
+use frs_segment::{
+    ChunkPlace, FILE_LIMIT, Found, HEADER_LENGTH, MOST_RECORDS, Segment, one_log, open_segment,
+};
 use frs_slots::{DrawEnd, Filled, Taker};
-use frs_types::NoMemory;
+use frs_types::{NUMBER_LIMIT, NoMemory, Sequence};
 use std::alloc::Global;
 use std::marker::Model;
 use std::snapshot::Snapshot;
-
-// LSNs and the numbers of segments are below this.
-const END: u64 = 1 << 62;
-
-// The length at which a segment is left, in bytes.
-const SEGMENT_LIMIT: u64 = 1 << 20;
 
 // For so many chunks there is room in the list of a new segment at first.
 const FIRST_PLACES: usize = 16;
@@ -65,7 +59,7 @@ impl<D: Disk> Model for Writer<D> {
 
     ghost view = { λ a. view_of a };
 
-    ghost invariant = { λ a. IsWriter D.tells D.reads D.may_leave D.removing D.faults a };
+    ghost invariant = { λ a. IsWriter D.Disk a };
 }
 
 impl<D: Disk> Writer<D> {
@@ -83,49 +77,35 @@ impl<D: Disk> Writer<D> {
         clients: u32,
     ) -> Result<Writer<D>, Refused<D>>
         requires clients { (1 ≤ clients) × (clients ≤ 64) }
-        requires found { IsTrue (D.tells disk) → (segments : List WholeSegment) × (log : Log) × IsFound (entries (D.reads disk)) segments log found.now }
-        requires pending { IsTrue (D.tells disk) → NoneRemovedAbove D.reads D.removing disk }
-        requires greatest { found.now.greatest < 2 ^ 62 }
+        requires found { IsTrue (D.tells disk) → (segments : List WholeSegment) × (log : Log)
+            × IsFound (entries (D.reads disk)) segments log found.now }
+        requires pending { IsTrue (D.tells disk) → NoneRemovedAbove D.Disk disk }
+        requires greatest { found.now.greatest < NUMBER_LIMIT }
         requires taker { (taker.taken ≡ []) × (taker.first ≡ found.now.next) }
 
         ensures writer { IfOk result (λ w. (w.opened ≡ disk) × (w.taker ≡ taker) × (w.kept ≡ None)
             × (w.noted ≡ replicate clients 0) × (w.synced + 1 ≡ found.now.next) × (w.ended ≡ None)
-            × (w.segments ≡ found.now.segments ++ places_of_segment (new_segment (found.now.greatest + 1) found.now.next) ∷ [])) }
+            × (w.segments ≡ found.now.segments
+            ++ places_of_segment (new_segment (found.now.greatest + 1) found.now.next) ∷ [])) }
 
-        // Each image since the start, and now, spells what was read at the start.
-        ensures images { IfOk result (λ w. IsTrue (D.tells disk) → IsWellOpened D.reads D.may_leave disk → (log : Log) → Spells (entries (D.reads disk)) log
-            → Within D.moment D.left_since disk w.disk (λ c. Spells (entries c) log)) }
-        ensures images_refused { IfErr result (λ e. IsTrue (D.tells disk) → IsWellOpened D.reads D.may_leave disk → (log : Log) → Spells (entries (D.reads disk)) log
-            → Within D.moment D.left_since disk e.disk (λ c. Spells (entries c) log)) }
-        ensures newest { IfOk result (λ w. IsTrue (D.tells disk) → IsSynced D.reads D.may_leave w.disk (found.now.greatest + 1)) }
+        // What a crash in the call leaves, and what one after it does.
+        ensures crash { (IfOk result (λ w. LeavesFound D.Disk disk w.disk))
+            × IfErr result (λ e. LeavesFound D.Disk disk e.disk) }
+        ensures durable { IfOk result (λ w. IsDurableAtOpening D.Disk disk w.disk (found.now.greatest + 1)) }
 
-        // Where the log was empty, all open files of each image are its segments, and have no record. Where there was no
-        // file there is at most one.
-        ensures whole { IfOk result (λ w. IsTrue (D.tells disk) → IsWellOpened D.reads D.may_leave disk → WasEmpty D.reads disk
-            → Within D.moment D.left_since disk w.disk (λ c. HoldsLog (LeftNoFile D.may_leave disk) 1 (entries c) [])) }
-        ensures whole_refused { IfErr result (λ e. IsTrue (D.tells disk) → IsWellOpened D.reads D.may_leave disk → WasEmpty D.reads disk
-            → Within D.moment D.left_since disk e.disk (λ c. HoldsLog (LeftNoFile D.may_leave disk) 1 (entries c) [])) }
-
-        // Where there was no file, none is half-made afterwards.
-        ensures whole_durable { IfOk result (λ w. IsTrue (D.tells disk) → IsWellOpened D.reads D.may_leave disk → WasEmpty D.reads disk
-            → (c : Image) → D.may_leave w.disk c → HoldsLog (LeftNoFile D.may_leave disk) 0 (entries c) []) }
-
-        ensures limit { IfErr result (λ e. (number : ℕ) → e.fault ≡ NumberLimit number → (number ≡ 2 ^ 62) × (found.now.greatest + 1 ≡ number) × (e.disk ≡ disk)) }
-        ensures not_limit { IsOk result → found.now.greatest + 1 < 2 ^ 62 }
-        ensures at_limit { found.now.greatest + 1 ≡ 2 ^ 62 → IfErr result (λ e. e.fault ≡ NumberLimit (2 ^ 62)) }
-        ensures told { (IfOk result (λ w. D.tells w.disk ≡ D.tells disk)) × IfErr result (λ e. D.tells e.disk ≡ D.tells disk) }
-        ensures time { (IfOk result (λ w. Passes D.moment D.left_since disk w.disk)) × IfErr result (λ e. Passes D.moment D.left_since disk e.disk) }
-        ensures cause { (IfOk result (λ w. D.faults w.disk ≡ D.faults disk)) × IfErr result (λ e. HasOpeningCause (D.faults disk) (D.faults e.disk) e.fault) }
+        ensures frame { (IfOk result (λ w. GoesOn D.Disk disk w.disk))
+            × IfErr result (λ e. GoesOn D.Disk disk e.disk) }
+        ensures cause { HasOpeningCause D.Disk disk (found.now.greatest + 1) result }
     {
         let first = taker.next();
         let number = found.greatest + 1;
-        if number == END {
+        if number == NUMBER_LIMIT {
             return Err(Refused {
                 disk,
                 fault: WriteFault::NumberLimit { number },
             });
         }
-        let Ok(parts) = Parts::new(alloc, found, number, clients) else {
+        let Ok(buffers) = Buffers::new(alloc, found, number, clients) else {
             return Err(Refused {
                 disk,
                 fault: WriteFault::Memory,
@@ -136,7 +116,7 @@ impl<D: Disk> Writer<D> {
         let count_at_opening = disk.count();
         // The log that was found is the one that the files spell.
         one_log();
-        if let Err(fault) = open_next(&mut disk, found.half.numbers(), number, first) {
+        if let Err(fault) = open_next(&mut disk, found.half.items(), number, first) {
             return Err(Refused {
                 disk,
                 fault: WriteFault::from(fault),
@@ -147,9 +127,9 @@ impl<D: Disk> Writer<D> {
             disk,
             taker,
             kept: None,
-            chunk: parts.chunk,
-            segments: parts.segments,
-            noted: parts.noted,
+            chunk: buffers.chunk,
+            segments: buffers.segments,
+            noted: buffers.noted,
             synced: first - 1,
             count_at_opening,
             ended: None,
@@ -253,52 +233,35 @@ impl<D: Disk> Writer<D> {
     /// open files that a crash may leave are its segments, from LSN 1 on; where there was no file, their numbers are those
     /// from 1 on, at most the newest is half-made, and each but the newest has a record.
     pub fn write_group(&mut self, alloc: Global, limit: u32) -> Result<u32, WriteFault>
-        requires { (1 ≤ limit) × (limit ≤ 256) }
+        requires { (1 ≤ limit) × (limit ≤ MOST_RECORDS) }
 
-        ensures wrote { IfOk result (λ count. Wrote limit count self.old self.new) }
-        ensures cause { HasWriteCause D.faults self.old self.new result }
-        ensures limit { self.old.ended ≡ None → is_due self.old ≡ true → number_of_newest self.old.segments + 1 ≡ 2 ^ 62 → IsErrOf result (NumberLimit (2 ^ 62)) }
+        ensures wrote { IfOk result (λ count. WritesGroup limit count self.old self.new) }
+        ensures cause { HasWriteCause D.Disk self.old self.new result }
+        ensures limit { self.old.ended ≡ None → is_due self.old ≡ true
+            → number_of_newest self.old.segments + 1 ≡ NUMBER_LIMIT → IsErrOf result (NumberLimit NUMBER_LIMIT) }
         ensures refused { OnErr result (self.new.synced ≡ self.old.synced) }
         ensures same { (self.new.opened ≡ self.old.opened) × (self.new.noted ≡ self.old.noted) }
 
         // Of its ring it has at most taken more.
-        ensures taker { (self.new.taker.ring ≡ self.old.taker.ring) × (self.new.taker.first ≡ self.old.taker.first) }
+        ensures taker { (self.new.taker.ring ≡ self.old.taker.ring)
+            × (self.new.taker.first ≡ self.old.taker.first) }
 
-        // Each image since the start spells the log up to a record that isn't before the last one durable at the start.
-        ensures images { IsTrue (D.tells self.old.disk) → OfPlacedLog D.reads D.may_leave self.new (λ log.
-            Within D.moment D.left_since self.old.disk self.new.disk (SpellsFrom self.old.synced log)) }
+        // What a crash in the call leaves, and what one after it does.
+        ensures crash { LeavesLog D.Disk self.old self.new }
+        ensures durable { OnOk result (IsDurable D.Disk self.old self.new) }
 
-        // Afterwards each image spells the log up to the last durable record, and has the newest file as it is read.
-        ensures durable { OnOk result (IsTrue (D.tells self.old.disk) → OfPlacedLog D.reads D.may_leave self.new (λ log.
-            (c : Image) → D.may_leave self.new.disk c → Spells (entries c) (log_up_to self.new.synced log))) }
-        ensures newest { OnOk result (IsTrue (D.tells self.old.disk) → IsSynced D.reads D.may_leave self.new.disk (number_of_newest self.new.segments)) }
-
-        // Where the log was empty at the opening, all open files are its segments, from LSN 1 on. Where there was no file
-        // then, its files are in order: at most the newest is half-made, and none once a group was written.
-        ensures whole { IsTrue (D.tells self.old.disk) → OfPlacedLog D.reads D.may_leave self.new (λ log. WasEmpty D.reads self.new.opened
-            → Within D.moment D.left_since self.old.disk self.new.disk (HoldsFrom (LeftNoFile D.may_leave self.new.opened) self.old.synced log)) }
-        ensures whole_durable { OnOk result (IsTrue (D.tells self.old.disk) → OfPlacedLog D.reads D.may_leave self.new (λ log. WasEmpty D.reads self.new.opened
-            → (c : Image) → D.may_leave self.new.disk c → HoldsLog (LeftNoFile D.may_leave self.new.opened) 0 (entries c) (take self.new.synced log.records))) }
-
-        ensures told { D.tells self.new.disk ≡ D.tells self.old.disk }
-        ensures time { Passes D.moment D.left_since self.old.disk self.new.disk }
+        ensures frame { GoesOn D.Disk self.old.disk self.new.disk }
     {
         self.check()?;
-        if self.is_due() {
-            self.write_next(alloc, limit)
-        } else {
-            self.write_here(alloc, limit)
-        }
+        let room = self.roll(alloc)?;
+        self.write(alloc, room, limit)
     }
 
     // Whether anything can be written: nothing was cut short so far. A crash at this moment leaves what is durable.
     fn check(&self) -> Result<(), WriteFault>
-        ensures cause { HasWriteCause D.faults self.now self.now result }
+        ensures cause { HasWriteCause D.Disk self.now self.now result }
         ensures stopped { OnErr result (self.now.ended ≢ None) }
-        ensures images { IsTrue (D.tells self.now.disk) → OfPlacedLog D.reads D.may_leave self.now (λ log.
-            Within D.moment D.left_since self.now.disk self.now.disk (SpellsFrom self.now.synced log)) }
-        ensures whole { IsTrue (D.tells self.now.disk) → OfPlacedLog D.reads D.may_leave self.now (λ log. WasEmpty D.reads self.now.opened
-            → Within D.moment D.left_since self.now.disk self.now.disk (HoldsFrom (LeftNoFile D.may_leave self.now.opened) self.now.synced log)) }
+        ensures crash { LeavesLog D.Disk self.now self.now }
     {
         match self.ended {
             None => Ok(()),
@@ -315,83 +278,34 @@ impl<D: Disk> Writer<D> {
         ensures { result ≡ is_due self.now }
     {
         let newest = &self.segments[self.segments.len() - 1];
-        newest.length >= SEGMENT_LIMIT && self.synced + 1 < END
+        newest.length >= FILE_LIMIT && self.synced + 1 < NUMBER_LIMIT
     }
 
-    // Writes a group to the newest segment.
-    fn write_here(&mut self, alloc: Global, limit: u32) -> Result<u32, WriteFault>
-        requires limit { (1 ≤ limit) × (limit ≤ 256) }
-        requires fine { self.old.ended ≡ None }
-        requires here { is_due self.old ≡ false }
-        ensures wrote { IfOk result (λ count. Wrote limit count self.old self.new) }
-        ensures cause { HasWriteCause D.faults self.old self.new result }
-        ensures refused { OnErr result (self.new.synced ≡ self.old.synced) }
-        ensures same { (self.new.opened ≡ self.old.opened) × (self.new.noted ≡ self.old.noted) }
-        ensures taker { (self.new.taker.ring ≡ self.old.taker.ring) × (self.new.taker.first ≡ self.old.taker.first) }
-        ensures images { IsTrue (D.tells self.old.disk) → OfPlacedLog D.reads D.may_leave self.new (λ log.
-            Within D.moment D.left_since self.old.disk self.new.disk (SpellsFrom self.old.synced log)) }
-        ensures durable { OnOk result (IsTrue (D.tells self.old.disk) → OfPlacedLog D.reads D.may_leave self.new (λ log.
-            (c : Image) → D.may_leave self.new.disk c → Spells (entries c) (log_up_to self.new.synced log))) }
-        ensures whole { IsTrue (D.tells self.old.disk) → OfPlacedLog D.reads D.may_leave self.new (λ log. WasEmpty D.reads self.new.opened
-            → Within D.moment D.left_since self.old.disk self.new.disk (HoldsFrom (LeftNoFile D.may_leave self.new.opened) self.old.synced log)) }
-        ensures whole_durable { OnOk result (IsTrue (D.tells self.old.disk) → OfPlacedLog D.reads D.may_leave self.new (λ log. WasEmpty D.reads self.new.opened
-            → (c : Image) → D.may_leave self.new.disk c → HoldsLog (LeftNoFile D.may_leave self.new.opened) 0 (entries c) (take self.new.synced log.records))) }
-        ensures newest { OnOk result (IsTrue (D.tells self.old.disk) → IsSynced D.reads D.may_leave self.new.disk (number_of_newest self.new.segments)) }
-        ensures told { D.tells self.new.disk ≡ D.tells self.old.disk }
-        ensures time { Passes D.moment D.left_since self.old.disk self.new.disk }
+    // Goes on to a new segment where this is due, and gives room for the places of its chunks. All memory for it is taken
+    // before anything is changed.
+    fn roll(&mut self, alloc: Global) -> Result<Option<Vec<ChunkPlace>>, WriteFault>
+        requires { self.old.ended ≡ None }
+        ensures rolled { OnOk result (IsRolled self.old self.new) }
+        ensures room { IfOk result (λ room. IfSome room (λ places. (places.items ≡ [])
+            × (vec_len places < vec_capacity places) × (chunks_of_newest self.new.segments ≡ []))) }
+        ensures none { IfOk result (λ room. room ≡ None → self.new ≡ self.old) }
+        ensures cause { HasWriteCause D.Disk self.old self.new result }
+        ensures limit { is_due self.old ≡ true
+            → number_of_newest self.old.segments + 1 ≡ NUMBER_LIMIT → IsErrOf result (NumberLimit NUMBER_LIMIT) }
+        ensures refused { OnErr result (self.new
+            ≡ record self.old { disk = self.new.disk; ended = self.new.ended }) }
+        ensures crash { LeavesLog D.Disk self.old self.new }
+        ensures shown { LeavesShown D.Disk self.old self.new }
+        ensures frame { GoesOn D.Disk self.old.disk self.new.disk }
     {
-        let newest = self.segments.len() - 1;
-        let places = places_with_room(alloc, &mut self.segments[newest])?;
-        let written = put_group(
-            &mut self.disk,
-            &mut self.segments[newest],
-            places,
-            &mut self.taker,
-            &mut self.kept,
-            &mut self.chunk,
-            limit,
-        );
-        match written {
-            Ok(count) => {
-                self.synced += u64::from(count);
-                Ok(count)
-            }
-            Err(fault) => {
-                self.ended = Some(fault);
-                Err(WriteFault::from(fault))
-            }
+        if !self.is_due() {
+            return Ok(None);
         }
-    }
-
-    // Goes on to a new segment, and writes a group to it.
-    fn write_next(&mut self, alloc: Global, limit: u32) -> Result<u32, WriteFault>
-        requires limit { (1 ≤ limit) × (limit ≤ 256) }
-        requires fine { self.old.ended ≡ None }
-        requires next { is_due self.old ≡ true }
-        ensures wrote { IfOk result (λ count. Wrote limit count self.old self.new) }
-        ensures cause { HasWriteCause D.faults self.old self.new result }
-        ensures limit { number_of_newest self.old.segments + 1 ≡ 2 ^ 62 → IsErrOf result (NumberLimit (2 ^ 62)) }
-        ensures refused { OnErr result (self.new.synced ≡ self.old.synced) }
-        ensures same { (self.new.opened ≡ self.old.opened) × (self.new.noted ≡ self.old.noted) }
-        ensures taker { (self.new.taker.ring ≡ self.old.taker.ring) × (self.new.taker.first ≡ self.old.taker.first) }
-        ensures images { IsTrue (D.tells self.old.disk) → OfPlacedLog D.reads D.may_leave self.new (λ log.
-            Within D.moment D.left_since self.old.disk self.new.disk (SpellsFrom self.old.synced log)) }
-        ensures durable { OnOk result (IsTrue (D.tells self.old.disk) → OfPlacedLog D.reads D.may_leave self.new (λ log.
-            (c : Image) → D.may_leave self.new.disk c → Spells (entries c) (log_up_to self.new.synced log))) }
-        ensures whole { IsTrue (D.tells self.old.disk) → OfPlacedLog D.reads D.may_leave self.new (λ log. WasEmpty D.reads self.new.opened
-            → Within D.moment D.left_since self.old.disk self.new.disk (HoldsFrom (LeftNoFile D.may_leave self.new.opened) self.old.synced log)) }
-        ensures whole_durable { OnOk result (IsTrue (D.tells self.old.disk) → OfPlacedLog D.reads D.may_leave self.new (λ log. WasEmpty D.reads self.new.opened
-            → (c : Image) → D.may_leave self.new.disk c → HoldsLog (LeftNoFile D.may_leave self.new.opened) 0 (entries c) (take self.new.synced log.records))) }
-        ensures newest { OnOk result (IsTrue (D.tells self.old.disk) → IsSynced D.reads D.may_leave self.new.disk (number_of_newest self.new.segments)) }
-        ensures told { D.tells self.new.disk ≡ D.tells self.old.disk }
-        ensures time { Passes D.moment D.left_since self.old.disk self.new.disk }
-    {
-        let newest = self.segments.len() - 1;
-        let number = self.segments[newest].number + 1;
-        if number == END {
+        let number = self.segments[self.segments.len() - 1].number + 1;
+        if number == NUMBER_LIMIT {
             return Err(WriteFault::NumberLimit { number });
         }
-        let Ok(places) = Vec::with_capacity(alloc, FIRST_PLACES) else {
+        let Ok(room) = Vec::with_capacity(alloc, FIRST_PLACES) else {
             return Err(WriteFault::Memory);
         };
         if self.segments.reserve(1).is_err() {
@@ -406,12 +320,36 @@ impl<D: Disk> Writer<D> {
             number,
             first,
             end: first,
-            length: EMPTY_LENGTH,
-            chunks: Places::of(Vec::new(alloc)),
+            length: HEADER_LENGTH as u64,
+            chunks: Sequence::of(Vec::new(alloc)),
         });
+        Ok(Some(room))
+    }
+
+    // Writes a group to the newest segment. Where the segment has no chunk there may be room for the places of its chunks.
+    fn write(
+        &mut self,
+        alloc: Global,
+        room: Option<Vec<ChunkPlace>>,
+        limit: u32,
+    ) -> Result<u32, WriteFault>
+        requires limit { (1 ≤ limit) × (limit ≤ MOST_RECORDS) }
+        requires fine { (self.old.ended ≡ None) × (is_due self.old ≡ false) }
+        requires room { IfSome room (λ places. (places.items ≡ [])
+            × (vec_len places < vec_capacity places) × (chunks_of_newest self.old.segments ≡ [])) }
+        ensures wrote { IfOk result (λ count. WritesGroup limit count self.old self.new) }
+        ensures cause { HasPutCause D.Disk (room ≡ None) self.old self.new result }
+        ensures refused { OnErr result (self.new.synced ≡ self.old.synced) }
+        ensures same { TakesMore self.old self.new }
+        ensures crash { LeavesLog D.Disk self.old self.new }
+        ensures durable { OnOk result (IsDurable D.Disk self.old self.new) }
+        ensures frame { GoesOn D.Disk self.old.disk self.new.disk }
+    {
+        let newest = self.segments.len() - 1;
+        let places = take_places(alloc, &mut self.segments[newest], room)?;
         let written = put_group(
             &mut self.disk,
-            &mut self.segments[newest + 1],
+            &mut self.segments[newest],
             places,
             &mut self.taker,
             &mut self.kept,

@@ -8,7 +8,7 @@ invariant_of-self g c =
     let d = g.D.Disk in
     let old = c.self.invariant in
     record {
-      kept_is = kept_noted d.tells d.reads d.may_leave d.removing (view_of c.self.inside) (c.args.client - 1) c.args.lsn c.if-lsn-self.false old.kept_is;
+      kept_is = kept_noted d (view_of c.self.inside) (c.args.client - 1) c.args.lsn c.if-lsn-self.false old.kept_is;
       count = old.count;
       later = old.later;
       broken = old.broken;

@@ -10,7 +10,7 @@ invariant_of-self g c =
     let d = g.D.Disk in
     let old = c.self.invariant in
     record {
-      kept_is = kept_same d.tells d.reads d.may_leave d.removing (view_of c.self.inside) c.learn.new.self
+      kept_is = kept_same d (view_of c.self.inside) c.learn.new.self
           (elim (cases_eq c.args.filled.lsn (c.self.inside.taker.first + c.self.inside.taker.sure)) [
             | inl same ↦ ap (λ (t : TakerView). t.first) (c.learn.ensures.in_order same)
             | inr other ↦ ap (λ (t : TakerView). t.first) (c.learn.ensures.other other)

@@ -9,7 +9,7 @@ invariant_of-self g c =
     let d = g.D.Disk in
     let old = c.self.invariant in
     record {
-      kept_is = kept_same d.tells d.reads d.may_leave d.removing (view_of c.self.inside) c.beside.new.taker
+      kept_is = kept_same d (view_of c.self.inside) c.beside.new.taker
           (ap (λ (t : TakerView). t.first) c.beside.ensures.taker.0) (ap (λ (t : TakerView). t.taken) c.beside.ensures.taker.0) old.kept_is;
       count = old.count;
       later = old.later;

@@ -9,7 +9,7 @@ invariant_of-self g c =
     let d = g.D.Disk in
     let old = c.self.invariant in
     record {
-      kept_is = kept_same d.tells d.reads d.may_leave d.removing (view_of c.self.inside) c.renew.new.taker
+      kept_is = kept_same d (view_of c.self.inside) c.renew.new.taker
           (by_answer c.renew.result c.renew.ensures.taker c.renew.ensures.refused (λ ok. ap (λ (t : TakerView). t.first) ok.0) (λ err. ap (λ (t : TakerView). t.first) err.1))
           (by_answer c.renew.result c.renew.ensures.taker c.renew.ensures.refused (λ ok. ap (λ (t : TakerView). t.taken) ok.0) (λ err. ap (λ (t : TakerView). t.taken) err.1))
           old.kept_is;

@@ -6,10 +6,12 @@ use Rattle.std.proofs.lemmas.List.Kept.{AllPairs-from_increasing}
 use Rattle.std.proofs.lemmas.Bool.{cases_eq, cases_lt}
 use Rattle.std.proofs.lemmas.List.Elements.{All-from_get_or}
 use Rattle.std.specs.FinMap.{get}
-use Rattle.frs_disk.specs.Disk.{Image, SameElsewhere, ChangesFile, Removed, Follows, Passes, Within, Elapses}
+use Rattle.frs_disk.specs.declared.disk.Disk.{Ghosts}
+use Rattle.frs_disk.specs.Disk.{Image, SameElsewhere, ChangesFile, Removed, Follows, Passes, Elapses}
+use Rattle.frs_disk.specs.Frames.{Within}
 use Rattle.frs_disk.proofs.Moments.{within_call, within_join}
 use Rattle.frs_segment.specs.Front.{IsInTheMaking}
-use Rattle.frs_writer.specs.Opening.{Thinned, IsThinned, IsOpening}
+use Rattle.frs_writer.specs.Setup.{Thinned, IsThinned, IsOpening}
 
 -- ---- one file after another
 
@@ -45,18 +47,18 @@ gone_more numbers rising i inside b c so_far step gone k lt = elim (cases_lt k i
 pub all_gone : (numbers : List ℕ) (i : ℕ) → length numbers ≤ i → (c : Image) → ((k : ℕ) → k < i → get c (slice_index numbers k) ≡ None) → All (λ (n : ℕ). get c n ≡ None) numbers
 all_gone numbers i most c gone = All-from_get_or (λ (n : ℕ). get c n ≡ None) numbers 0 (λ k lt. gone k (omega (arith, lt, most)))
 
-module _ {D : Type 0} (moment : D → ℕ) (left_since : D → ℕ → Image → Type 0) (may_leave : D → Image → Type 0) (numbers : List ℕ) where
-  pub thin_start : (old : D) → ((c : Image) → left_since old (moment old) c → may_leave old c) → Within moment left_since old old (IsThinned numbers (may_leave old))
+module _ {D : Type 0} (g : Ghosts D) (numbers : List ℕ) where
+  pub thin_start : (old : D) → ((c : Image) → g.left_since old (g.moment old) c → g.may_leave old c) → Within g old old (IsThinned numbers (g.may_leave old))
   thin_start old only c left = (c, only c left, thin_none numbers c)
 
-  pub thin_step : (n : ℕ) → Contains numbers n → (old mid new : D) → Passes moment left_since old mid → ((c : Image) → may_leave mid c → left_since mid (moment old) c)
-      → Within moment left_since old mid (IsThinned numbers (may_leave old)) → Elapses moment left_since may_leave mid new → Follows (ChangesFile n Removed) (may_leave mid) (may_leave new)
-      → Within moment left_since old new (IsThinned numbers (may_leave old))
+  pub thin_step : (n : ℕ) → Contains numbers n → (old mid new : D) → Passes g.moment g.left_since old mid → ((c : Image) → g.may_leave mid c → g.left_since mid (g.moment old) c)
+      → Within g old mid (IsThinned numbers (g.may_leave old)) → Elapses g.moment g.left_since g.may_leave mid new → Follows (ChangesFile n Removed) (g.may_leave mid) (g.may_leave new)
+      → Within g old new (IsThinned numbers (g.may_leave old))
   thin_step n has old mid new first counts so_far time follows =
-      within_join moment left_since old mid new (IsThinned numbers (may_leave old)) first time.passes so_far
-      (within_call moment left_since may_leave mid new (IsThinned numbers (may_leave old)) time (λ c left. so_far c (counts c left)) later)
+      within_join g old mid new (IsThinned numbers (g.may_leave old)) first time.passes so_far
+      (within_call g mid new (IsThinned numbers (g.may_leave old)) time (λ c left. so_far c (counts c left)) later)
     where
-      later : (c : Image) → may_leave new c → IsThinned numbers (may_leave old) c
+      later : (c : Image) → g.may_leave new c → IsThinned numbers (g.may_leave old) c
       later c left =
           let from = follows c left in
           let base = so_far from.0 (counts from.0 from.1) in

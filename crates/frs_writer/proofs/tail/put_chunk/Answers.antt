@@ -2,11 +2,11 @@ use Rattle.std.proofs.Common.{◌≡◌, ◌⊎◌, ℕ, ◌+◌, ◌-◌, ◌++
 use Rattle.std.specs.FinMap.{get}
 use Rattle.frs_disk.specs.Disk.{bytes_at}
 use Rattle.frs_segment.specs.declared.layout.ChunkPlace.{ChunkPlace}
-use Rattle.frs_writer.specs.Appending.{IsShut, sealed}
+use Rattle.frs_writer.specs.Gates.{IsShut, sealed}
 use Rattle.frs_writer.specs.Chunk.{ChunkView}
 use Rattle.frs_writer.specs.Groups.{joined_records}
 use Rattle.frs_writer.proofs.Gathering.{sealed_bytes, body_is}
-use Rattle.frs_writer.proofs.newest.put_chunk.Goals as goal
+use Rattle.frs_writer.proofs.tail.put_chunk.Goals as goal
 
 pub returns-in-Ok-clause-put : goal.returns-in-Ok-clause-put
 returns-in-Ok-clause-put g c = λ group has.
@@ -18,11 +18,7 @@ returns-in-Ok-clause-put g c = λ group has.
     let count : c.count.result ≡ length group = c.count.ensures ∙ ap (λ (x : ChunkView). x.count) has in
     let long : c.body_len.result ≡ length (joined_records group) = c.body_len.ensures ∙ body_is c.args.chunk.now group has in
     record {
-      told = c.append_chunk.ensures.told;
-      time = c.append_chunk.ensures.time;
-      pending = c.append_chunk.ensures.pending;
-      elsewhere = c.append_chunk.ensures.elsewhere;
-      others = c.append_chunk.ensures.others;
+      frame = c.append_chunk.ensures.frame;
       images = λ told x left.
           subst (λ (b : List ℕ). IsShut front (get x n) ⊎ (get x n ≡ Some (front ++ 1 ∷ b))) bytes (c.append_chunk.ensures.images told x left);
       counted = count;
@@ -46,11 +42,7 @@ returns-in-Err-clause-put g c = λ group has.
     let bytes : c.bytes.result.now ≡ sealed c.args.segment.now.«end» (length group) (joined_records group) =
     c.bytes.ensures ∙ ap (λ (x : ChunkView). x.bytes) c.seal.ensures ∙ sealed_bytes c.args.segment.now.«end» c.args.chunk.now group has in
     record {
-      told = c.append_chunk.ensures.told;
-      time = c.append_chunk.ensures.time;
-      pending = c.append_chunk.ensures.pending;
-      elsewhere = c.append_chunk.ensures.elsewhere;
-      others = c.append_chunk.ensures.others;
+      frame = c.append_chunk.ensures.frame;
       images = λ told x left.
           subst (λ (b : List ℕ). IsShut front (get x n) ⊎ (get x n ≡ Some (front ++ 1 ∷ b))) bytes (c.append_chunk.ensures.images told x left);
       counted = tt;

@@ -1,5 +1,5 @@
 use Rattle.std.proofs.Common.{◌≡◌, take}
-use Rattle.frs_writer.proofs.parts.copies.Given as goal
+use Rattle.frs_writer.proofs.setup.copies.Given as goal
 
 abbrev pub invariant-loop-segment : goal.invariant-loop-segment
 invariant-loop-segment l = l.copies.items ≡ take l.segment-index l.segments

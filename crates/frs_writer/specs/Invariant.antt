@@ -1,16 +1,20 @@
 -- What always holds of a writer: its numbers fit each other, and each image that a crash may leave shows its log as far as
 -- it is durable.
-use Rattle.std.specs.Prelude.{◌≡◌, ℕ, ◌+◌, ◌-◌, ◌^◌, ◌<◌, ◌≤◌, Bool, List, [], ◌∷◌, ◌++◌, length, map, take, None, IsTrue, All}
+use Rattle.std.specs.Prelude.{◌≡◌, ℕ, ◌+◌, ◌-◌, ◌<◌, ◌≤◌, List, [], ◌∷◌, ◌++◌, length, map, take, None, IsTrue, All}
 use Rattle.std.specs.Option.{option_to_list}
 use Rattle.std.specs.FinMap.{entries, get}
 use Rattle.frs_types.specs.Records.{Log, IsPlaced, next_lsn}
-use Rattle.frs_disk.specs.Disk.{Image, IsNumber, IsSynced, LeftNoFile}
+use Rattle.frs_disk.specs.declared.disk.Disk.{Ghosts}
+use Rattle.frs_disk.specs.Disk.{Image, IsNumber}
+use Rattle.frs_disk.specs.Frames.{IsSynced, LeftNoFile}
+use Rattle.frs_types.specs.declared.limits.TheConstants.{NUMBER_LIMIT}
 use Rattle.frs_segment.specs.declared.layout.Segment.{Segment}
 use Rattle.frs_segment.specs.Segments.{FileList, WholeSegment}
 use Rattle.frs_segment.specs.Scanning.{places_of_segment}
 use Rattle.frs_slots.specs.Views.{next_taken}
-use Rattle.frs_writer.specs.Appending.{IsAtGate}
-use Rattle.frs_writer.specs.Shown.{ShowsLog, Rests}
+use Rattle.frs_writer.specs.Gates.{IsAtGate}
+use Rattle.frs_writer.specs.Places.{HasLength}
+use Rattle.frs_writer.specs.LogImages.{ShowsLog, Rests}
 use Rattle.frs_writer.specs.Writer.{WriterView, IsLog, WasEmpty, IsWellOpened}
 
 -- ---- numbers
@@ -27,10 +31,10 @@ pub record IsCounted {D : Type 0} (w : WriterView D) : Type 0 where
   pub segments : w.segments ≡ older ++ newest ∷ []
   pub number : IsNumber newest.number
   pub ends : newest.«end» ≡ w.synced + 1
-  pub long : (23 ≤ newest.length) × (newest.length ≤ 2 ^ 22)
+  pub long : HasLength newest
   pub least : 1 ≤ w.taker.first
   pub first : w.taker.first ≤ w.synced + 1
-  pub most : next_taken w.taker ≤ 2 ^ 62
+  pub most : next_taken w.taker ≤ NUMBER_LIMIT
   pub written : w.synced + 1 ≤ next_taken w.taker
   pub counted : w.ended ≡ None → AreWritten w
   pub clients : (1 ≤ length w.noted) × (length w.noted ≤ 64)
@@ -39,11 +43,11 @@ pub record IsCounted {D : Type 0} (w : WriterView D) : Type 0 where
 -- ---- the disk
 
 -- The newest file ends in its closed gate and is durable, and no file stands above it or comes back there.
-pub record IsAtWork {D : Type 0} (reads : D → Image) (may_leave : D → Image → Type 0) (removing : D → ℕ → Type 0) (disk : D) (newest : Segment) : Type 0 where
-  pub gate : IsAtGate (newest.length - 1) (get (reads disk) newest.number)
-  pub durable : IsSynced reads may_leave disk newest.number
-  pub none_above : (q : ℕ) → newest.number < q → get (reads disk) q ≡ None
-  pub none_removed : (q : ℕ) → newest.number < q → removing disk q → ⊥
+pub record IsAtWork {D : Type 0} (g : Ghosts D) (disk : D) (newest : Segment) : Type 0 where
+  pub gate : IsAtGate (newest.length - 1) (get (g.reads disk) newest.number)
+  pub durable : IsSynced g disk newest.number
+  pub none_above : (q : ℕ) → newest.number < q → get (g.reads disk) q ≡ None
+  pub none_removed : (q : ℕ) → newest.number < q → g.removing disk q → ⊥
 
 -- ---- the log
 
@@ -58,17 +62,17 @@ durable_of w log = record log { records = take (w.synced + 1 - log.first) log.re
 -- Each image that a crash may leave shows what is durable. While nothing was cut short it shows that and nothing more, the
 -- newest file is the same in all of them, and the writer's segments are those that are read. The log stands alone where it
 -- was empty at the opening.
-pub record Holds {D : Type 0} (reads : D → Image) (may_leave : D → Image → Type 0) (w : WriterView D) (log : Log) : Type 0 where
+pub record Holds {D : Type 0} (g : Ghosts D) (w : WriterView D) (log : Log) : Type 0 where
   pub next_is : next_lsn log ≡ next_taken w.taker
-  pub each : (c : Image) → may_leave w.disk c → ShowsFrom (WasEmpty reads w.opened) (LeftNoFile may_leave w.opened) w.synced log (entries c)
+  pub each : (c : Image) → g.may_leave w.disk c → ShowsFrom (WasEmpty g w.opened) (LeftNoFile g w.opened) w.synced log (entries c)
   pub newest : w.ended ≡ None → (last : WholeSegment)
-      × ((c : Image) → may_leave w.disk c → Rests (WasEmpty reads w.opened) (LeftNoFile may_leave w.opened) (entries c) log.first (durable_of w log).records last)
+      × ((c : Image) → g.may_leave w.disk c → Rests (WasEmpty g w.opened) (LeftNoFile g w.opened) (entries c) log.first (durable_of w log).records last)
       × ((before : List WholeSegment) × (w.segments ≡ map places_of_segment (before ++ last ∷ [])))
 
 -- ---- all of it
 
-pub record IsKept {D : Type 0} (tells : D → Bool) (reads : D → Image) (may_leave : D → Image → Type 0) (removing : D → ℕ → Type 0) (w : WriterView D) : Type 0 where
+pub record IsKept {D : Type 0} (g : Ghosts D) (w : WriterView D) : Type 0 where
   pub counted : IsCounted w
-  pub told : tells w.disk ≡ tells w.opened
-  pub at_work : w.ended ≡ None → IsTrue (tells w.disk) → IsAtWork reads may_leave removing w.disk counted.newest
-  pub holds : IsTrue (tells w.disk) → IsWellOpened reads may_leave w.opened → (log : Log) → IsLog reads w log → IsPlaced log → Holds reads may_leave w log
+  pub told : g.tells w.disk ≡ g.tells w.opened
+  pub at_work : w.ended ≡ None → IsTrue (g.tells w.disk) → IsAtWork g w.disk counted.newest
+  pub holds : IsTrue (g.tells w.disk) → IsWellOpened g w.opened → (log : Log) → IsLog g w log → IsPlaced log → Holds g w log

@@ -1,7 +1,7 @@
 use Rattle.std.proofs.Common.{◌≡◌, ℕ, ◌+◌, ◌++◌, List, [], ◌∷◌, arith, sym, ◌∙◌, subst, length-append}
 use Rattle.frs_writer.proofs.Gathering.{one_more, with_kept, without_kept, Begun}
-use Rattle.frs_writer.proofs.gather.gather.Goals.{in-Some, in_default}
-use Rattle.frs_writer.proofs.gather.gather.Goals as goal
+use Rattle.frs_writer.proofs.group.gather.Goals.{in-Some, in_default}
+use Rattle.frs_writer.proofs.group.gather.Goals as goal
 
 begun : (c : goal.After-count-counter) → Begun c.args.taker.now c.args.kept.now c.match-take.chunk
 begun c = elim c.match-take.branch [

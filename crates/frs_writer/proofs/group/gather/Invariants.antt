@@ -1,6 +1,6 @@
 use Rattle.std.proofs.Common.{◌≡◌, ◌≤◌, List, ℕ, None, length}
 use Rattle.frs_writer.specs.Groups.{Gathered, HasGroup}
-use Rattle.frs_writer.proofs.gather.gather.Given as goal
+use Rattle.frs_writer.proofs.group.gather.Given as goal
 
 -- so far these records were taken, and nothing is kept
 abbrev pub invariant-loop : goal.invariant-loop

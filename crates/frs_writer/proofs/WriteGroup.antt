@@ -1,0 +1,123 @@
+-- How a roll and a write behind it join into a call of `write_group`.
+use Rattle.std.proofs.Common.{◌≡◌, inl, inr, ⊎_elim, ℕ, ◌+◌, ◌-◌, ◌≤◌, List, ◌++◌, length, None, refl, sym, ◌∙◌, ap, subst, arith, append_assoc, length-append, IsTrue}
+use Rattle.std.specs.Prelude.{Result, Ok, Err, nat_lt, if◌then◌else◌}
+use Rattle.std.proofs.lemmas.List.{take-append-le}
+use Rattle.std.specs.FinMap.{entries}
+use Rattle.frs_types.specs.declared.record.Record.{Record}
+use Rattle.frs_types.specs.Records.{Log, IsPlaced, from_lowest}
+use Rattle.frs_disk.specs.declared.disk.Disk.{Ghosts}
+use Rattle.frs_disk.specs.Disk.{Image, Rose}
+use Rattle.frs_disk.specs.Frames.{Within, GoesOn, LeftNoFile}
+use Rattle.frs_disk.proofs.Moments.{within_join}
+use Rattle.frs_segment.specs.declared.layout.Segment.{Segment}
+use Rattle.frs_segment.specs.Segments.{FileList, Spells}
+use Rattle.frs_slots.specs.Views.{TakerView}
+use Rattle.frs_writer.specs.declared.fault.WriteFault.{WriteFault}
+use Rattle.frs_writer.specs.declared.fault.WriteFault.TheVariants.{Disk, Broken, NumberLimit, Memory}
+use Rattle.frs_writer.specs.Groups.{joined_records, GathersGroup}
+use Rattle.frs_writer.specs.Invariant.{ShowsFrom}
+use Rattle.frs_writer.specs.LogImages.{ShowsLog}
+use Rattle.frs_writer.specs.Places.{with_newest_grown}
+use Rattle.frs_writer.specs.Writer.{WriterView, IsLog, WasEmpty, IsWellOpened}
+use Rattle.frs_writer.specs.Writing.{WritesGroup, IsRolled, TakesMore, SpellsFrom, HoldsFrom, LeavesLog, LeavesShown, IsDurable, HasWriteCause, HasPutCause}
+use Rattle.frs_writer.proofs.Logs.{part, with_more, placed_less}
+use Rattle.frs_writer.proofs.Whole.{from_whole}
+use Rattle.frs_writer.proofs.Written.{not_due}
+
+-- ---- a log with more records
+
+spells_more : (synced : ℕ) (log log' : Log) (more : List Record) (c : Image) → log' ≡ with_more log more → SpellsFrom synced log c → SpellsFrom synced log' c
+spells_more synced log log' more c is (n, least, most, spells) = subst (λ (l : Log). SpellsFrom synced l c) (sym is) (
+  n,
+  least,
+  omega (arith, most, length-append log.records more),
+  subst (λ (l : List Record). Spells (entries c) (from_lowest log.first l)) (sym (take-append-le (n + 1 - log.first) log.records more (omega (arith, most)))) spells,
+)
+
+shows_more : {alone fresh : Type 0} (synced : ℕ) (log log' : Log) (more : List Record) (image : FileList) → log' ≡ with_more log more → ShowsFrom alone fresh synced log image → ShowsFrom alone fresh synced log' image
+shows_more {alone = alone} {fresh = fresh} synced log log' more image is (n, least, most, shows) = subst (λ (l : Log). ShowsFrom alone fresh synced l image) (sym is) (
+  n,
+  least,
+  omega (arith, most, length-append log.records more),
+  subst (λ (l : List Record). ShowsLog alone fresh image log.first l) (sym (take-append-le (n + 1 - log.first) log.records more (omega (arith, most)))) shows,
+)
+
+-- The log of a writer before it has taken more.
+record LogBefore {D : Type 0} (g : Ghosts D) (w : WriterView D) (log' : Log) : Type 0 where
+  log : Log
+  is_log : IsLog g w log
+  more : List Record
+  log_is : log' ≡ with_more log more
+
+log_before : {D : Type 0} (g : Ghosts D) (w w' : WriterView D) → TakesMore w w' → (log' : Log) → IsLog g w' log' → LogBefore g w log'
+log_before g w w' takes log' l =
+    let p = part w.taker.taken takes.more l.taken (sym takes.taken ∙ l.bytes) in
+    let base = l.base.records in
+    record {
+      log = record l.base { records = base ++ p.front };
+      is_log = record { base = l.base; spelled = subst (λ o. Spells (entries (g.reads o)) l.base) takes.opened l.spelled; taken = p.front; bytes = p.front_is; is = refl };
+      more = p.back;
+      log_is = l.is ∙ ap (λ (x : List Record). record l.base { records = base ++ x }) p.is ∙ ap (λ (x : List Record). record l.base { records = x }) (sym (append_assoc base p.front p.back));
+    }
+
+-- ---- a roll, and a write behind it
+
+module _ {D : Type 0} (g : Ghosts D) (old mid new : WriterView D) (rolled : IsRolled old mid) (takes : TakesMore mid new) where
+  opened_mid : mid.opened ≡ old.opened
+  opened_mid = ap (λ (w : WriterView D). w.opened) rolled.view
+
+  taker_mid : mid.taker ≡ old.taker
+  taker_mid = ap (λ (w : WriterView D). w.taker) rolled.view
+
+  synced_mid : mid.synced ≡ old.synced
+  synced_mid = ap (λ (w : WriterView D). w.synced) rolled.view
+
+  pub joined_same : (new.opened ≡ old.opened) × (new.noted ≡ old.noted)
+  joined_same = (takes.opened ∙ opened_mid, takes.noted ∙ ap (λ (w : WriterView D). w.noted) rolled.view)
+
+  pub joined_taker : (new.taker.ring ≡ old.taker.ring) × (new.taker.first ≡ old.taker.first)
+  joined_taker = (takes.ring.0 ∙ ap (λ (t : TakerView). t.ring) taker_mid, takes.ring.1 ∙ ap (λ (t : TakerView). t.first) taker_mid)
+
+  pub joined_wrote : (limit count : ℕ) → WritesGroup limit count mid new → WritesGroup limit count old new
+  joined_wrote limit count wrote = record {
+    group = wrote.group;
+    gathers = subst (λ (o : _). GathersGroup limit old.taker new.taker o new.kept wrote.group) (ap (λ (w : WriterView D). w.kept) rolled.view)
+        (subst (λ (t : TakerView). GathersGroup limit t new.taker mid.kept new.kept wrote.group) taker_mid wrote.gathers);
+    counted = wrote.counted;
+    none = λ zero. let (was, now) = wrote.none zero in (sym (ap (λ (w : WriterView D). w.kept) rolled.view) ∙ was, now);
+    synced = wrote.synced ∙ ap (λ (n : ℕ). n + count) synced_mid;
+    segments = wrote.segments ∙ ap (λ (l : List Segment). if nat_lt 0 count then with_newest_grown count (length (joined_records wrote.group)) l else l)
+        (not_due mid rolled.here ∙ ap (λ (w : WriterView D). w.segments) rolled.view);
+  }
+
+  pub joined_leaves : ((disk : D) (s t : ℕ) (c : Image) → s ≤ t → g.left_since disk t c → g.left_since disk s c) → GoesOn g old.disk mid.disk → GoesOn g mid.disk new.disk
+      → LeavesLog g old mid → LeavesShown g old mid → LeavesLog g mid new → LeavesLog g old new
+  joined_leaves earlier first second before shown after = record {
+    images = λ told well log is_log placed.
+        let l = log_before g mid new takes log is_log in
+        let was = before.images told (subst (λ (o : D). IsWellOpened g o) takes.opened well) l.log l.is_log (placed_less l.log l.more (subst IsPlaced l.log_is placed)) in
+        within_join g old.disk mid.disk new.disk (SpellsFrom old.synced log) first.time second.time (λ c left. spells_more old.synced l.log log l.more c l.log_is (was c left))
+        (subst (λ (n : ℕ). Within g mid.disk new.disk (SpellsFrom n log)) synced_mid (after.images (subst IsTrue (sym first.told) told) well log is_log placed));
+    whole = λ told well log is_log placed empty.
+        let l = log_before g mid new takes log is_log in
+        let was = shown told (subst (λ (o : D). IsWellOpened g o) takes.opened well) l.log l.is_log (placed_less l.log l.more (subst IsPlaced l.log_is placed)) in
+        within_join g old.disk mid.disk new.disk (HoldsFrom (LeftNoFile g new.opened) old.synced log) first.time second.time
+        (λ c left. from_whole old.synced log c
+        (subst (λ (o : D). ShowsFrom (WasEmpty g o) (LeftNoFile g o) old.synced log (entries c)) (sym takes.opened) (shows_more old.synced l.log log l.more (entries c) l.log_is (was c left))) empty)
+        (subst (λ (n : ℕ). Within g mid.disk new.disk (HoldsFrom (LeftNoFile g new.opened) n log)) synced_mid (after.whole (subst IsTrue (sym first.told) told) well log is_log placed empty));
+  }
+
+  pub joined_durable : GoesOn g old.disk mid.disk → IsDurable g mid new → IsDurable g old new
+  joined_durable first durable = record {
+    spelled = λ told. durable.spelled (subst IsTrue (sym first.told) told);
+    newest = λ told. durable.newest (subst IsTrue (sym first.told) told);
+    whole = λ told. durable.whole (subst IsTrue (sym first.told) told);
+  }
+
+  pub joined_cause : (not_given : Type 0) (result : Result ℕ WriteFault) → old.ended ≡ None → g.faults mid.disk ≡ g.faults old.disk → (not_given → mid ≡ old)
+      → HasPutCause g not_given mid new result → HasWriteCause g old new result
+  joined_cause not_given (Ok count) fine same kept cause = (cause.0 ∙ same, fine, cause.1)
+  joined_cause not_given (Err Disk) fine same kept cause = (subst (λ (n : ℕ). Rose n (g.faults new.disk)) same cause.0, fine, cause.1)
+  joined_cause not_given (Err (Broken at_opening now)) fine same kept cause = absurd cause
+  joined_cause not_given (Err (NumberLimit number)) fine same kept cause = absurd cause
+  joined_cause not_given (Err Memory) fine same kept cause = (cause.0 ∙ same, ⊎_elim (λ is. inl (is.0 ∙ kept is.1)) (λ ended. inr (fine, ended)) cause.1)
