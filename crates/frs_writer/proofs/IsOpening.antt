@@ -1,86 +1,282 @@
--- Files that are removed one by one, and what an opening leaves of a log.
-use Rattle.std.proofs.Common.{◌≡◌, ◌≢◌, ◌⊎◌, inl, inr, ⊎_elim, ℕ, ◌+◌, ◌<◌, ◌≤◌, List, length, None, IsSome, refl, sym, ◌∙◌, ap, subst, arith}
-use Rattle.std.specs.Prelude.{All, Contains, slice_index}
-use Rattle.std.specs.List.Sorted.{IsStrictlyIncreasing}
-use Rattle.std.proofs.lemmas.List.Kept.{AllPairs-from_increasing}
-use Rattle.std.proofs.lemmas.Bool.{cases_eq, cases_lt}
-use Rattle.std.proofs.lemmas.List.Elements.{All-from_get_or}
-use Rattle.std.specs.FinMap.{get}
-use Rattle.frs_disk.specs.declared.disk.Disk.{Ghosts}
-use Rattle.frs_disk.specs.Disk.{Image, SameElsewhere, ChangesFile, Removed, Follows, Passes, Elapses}
-use Rattle.frs_disk.specs.Frames.{Within}
-use Rattle.frs_disk.proofs.Moments.{within_call, within_join}
-use Rattle.frs_segment.specs.Front.{IsInTheMaking}
-use Rattle.frs_writer.specs.Setup.{Thinned, IsThinned, IsOpening}
+-- What an image shows of the log that was found, once some half-made files are gone and the next segment is being made.
+use Rattle.std.proofs.Common.{◌≡◌, ◌⊎◌, inl, inr, ⊎_elim, ℕ, ◌+◌, ◌-◌, ◌^◌, ◌<◌, ◌≤◌, ◌&&◌, Bool, true, false, not, cond, T, List, [], ◌∷◌, ◌++◌, length, drop, map, Option, Some, None, IsSome, IsTrue, refl, sym, ap, subst, ◌∙◌, arith, nat_eq}
+use Rattle.std.specs.Prelude.{All, Contains, is_some}
+use Rattle.std.specs.List.{AllByRecursion, AllZip, filter, slice_index_or}
+use Rattle.std.proofs.lemmas.Bool.{and_parts, and_from, eqb-true, eq-eqb, lt-ltb}
+use Rattle.std.proofs.lemmas.List.{drop_all}
+use Rattle.std.proofs.lemmas.List.Elements.{All-append, All-contains, All-filter, All-weaker}
+use Rattle.std.specs.Ordering.{nat_cmp}
+use Rattle.std.specs.Cmp.{nat_cmp_total}
+use Rattle.std.specs.FinMap.{get, entries, entries_sorted, get-entries, nat_cmp-IsAntisymmetric}
+use Rattle.std.specs.FinMap.Entries.{find, is_sorted, same_entries, where_key, find-where_key, is_sorted-where_key}
+use Rattle.frs_types.specs.declared.record.Record.{Record}
+use Rattle.frs_types.specs.Records.{Log, from_lowest, named_lowest}
+use Rattle.frs_disk.specs.Disk.{Image}
+use Rattle.frs_segment.specs.Front.{empty_segment}
+use Rattle.frs_segment.specs.declared.layout.Found.{Found}
+use Rattle.frs_segment.specs.Segments.{File, WholeSegment, IsSegment, SpellsBy, Spells, is_open_file, open_files, all_records, records_of, end_of, first_of, follow_from, places_of}
+use Rattle.frs_segment.specs.Segments.{FileList}
+use Rattle.frs_segment.specs.Stores.{IsFound, SpellsAlike, is_below, numbers_of}
+use Rattle.frs_writer.specs.Setup.{MissesSome, IsOpening}
+use Rattle.frs_writer.specs.LogImages.{ShowsLog, EndsWithSegment, TakesNext, new_segment}
+use Rattle.frs_segment.proofs.SpellsBy.{rising}
+use Rattle.frs_writer.proofs.TakesNext.{none_order, none_looked}
+use Rattle.frs_writer.proofs.ShowsLog.{base_shows, spells, shows_takes}
+use Rattle.frs_writer.proofs.EndsWithSegment.{one_next, one_making}
+use Rattle.frs_writer.proofs.MissesSome.{thin_absent}
+use Rattle.frs_writer.proofs.NumbersOf.{sorted_kept, filter_whole, filter_swap, lower_before, there_behind, all_there, all_numbers_there, by_numbers, Kept, kept_there}
+use Rattle.frs_writer.proofs.IsFound.{is_half, found_lowest}
 
--- ---- one file after another
+-- ---- segments without a record
 
-pub thin_none : (numbers : List ℕ) (a : Image) → Thinned numbers a a
-thin_none numbers a q = inl refl
+abbrev IsBare : WholeSegment → Type 0
+IsBare s = (s.first ≡ 1) × (records_of s ≡ [])
 
--- one of the files more
-pub thin_more : (numbers : List ℕ) (n : ℕ) → Contains numbers n → (a b c : Image) → Thinned numbers a b → ChangesFile n Removed b c → Thinned numbers a c
-thin_more numbers n has a b c so_far step q = elim (cases_eq q n) [
-  | inl is ↦ ⊎_elim (λ same. carry (ap (get c) is ∙ same ∙ ap (get b) (sym is)) (so_far q)) (λ gone. inr (subst (Contains numbers) (sym is) has, ap (get c) is ∙ gone)) step.file
-  | inr other ↦ carry (step.others q other) (so_far q)
-]
+front_none : (rs qs : List Record) → rs ++ qs ≡ [] → (rs ≡ []) × (qs ≡ [])
+front_none [] qs none = (refl, none)
+front_none (r ∷ rs) qs none = absurd cc
+
+all_bare : (n : ℕ) (segments : List WholeSegment) → n ≡ 1 → IsTrue (follow_from n segments) → all_records segments ≡ [] → AllByRecursion IsBare segments
+all_bare n [] one follow none = tt
+all_bare n (s ∷ segments) one follow none =
+    let parts = and_parts (nat_eq s.first n) (follow_from (end_of s) segments) follow in
+    let nothing = front_none (records_of s) (all_records segments) none in
+    let first : s.first ≡ 1 = eqb-true s.first n parts.0 ∙ one in
+    ((first, nothing.0), all_bare (end_of s) segments (omega (arith, first, ap length nothing.0)) parts.1 nothing.1)
+
+bare_follow : (n : ℕ) (segments : List WholeSegment) → n ≡ 1 → AllByRecursion IsBare segments → IsTrue (follow_from n segments)
+bare_follow n [] one bare = refl
+bare_follow n (s ∷ segments) one bare =
+    and_from (nat_eq s.first n) (follow_from (end_of s) segments) (eq-eqb s.first n (bare.0.0 ∙ sym one)) (bare_follow (end_of s) segments (omega (arith, bare.0.0, ap length bare.0.1)) bare.1)
+
+bare_first : (segments : List WholeSegment) → AllByRecursion IsBare segments → first_of segments ≡ 1
+bare_first [] bare = refl
+bare_first (s ∷ segments) bare = bare.0.0
+
+bare_records : (segments : List WholeSegment) → AllByRecursion IsBare segments → all_records segments ≡ []
+bare_records [] bare = refl
+bare_records (s ∷ segments) bare = ap (λ (rs : List Record). rs ++ all_records segments) bare.0.1 ∙ bare_records segments bare.1
+
+-- some of the files
+record Fewer (files : List File) : Type 0 where
+  segments : List WholeSegment
+  each : AllZip IsSegment files segments
+  bare : AllByRecursion IsBare segments
+
+fewer : (p : File → Bool) (files : List File) (segments : List WholeSegment) → AllZip IsSegment files segments → AllByRecursion IsBare segments → Fewer (filter p files)
+fewer p [] segments each bare = record { segments = []; each = tt; bare = tt }
+fewer p (f ∷ files) [] each bare = absurd each
+fewer p (f ∷ files) (s ∷ segments) each bare = by (fewer p files segments each.1 bare.1) (p f)
   where
-    carry : get c q ≡ get b q → (get b q ≡ get a q) ⊎ (Contains numbers q × (get b q ≡ None)) → (get c q ≡ get a q) ⊎ (Contains numbers q × (get c q ≡ None))
-    carry same was = ⊎_elim (λ before. inl (same ∙ before)) (λ gone. inr (gone.0, same ∙ gone.1)) was
+    by : Fewer (filter p files) → (t : Bool) → Fewer (cond t (f ∷ filter p files) (filter p files))
+    by rest true = record { segments = s ∷ rest.segments; each = (each.0, rest.each); bare = (bare.0, rest.bare) }
+    by rest false = rest
 
--- the files behind it are there as before
-pub still_there : (numbers : List ℕ) → IsStrictlyIncreasing numbers → (i : ℕ) (b c : Image) → ((k : ℕ) → i ≤ k → k < length numbers → IsSome (get b (slice_index numbers k)))
-    → ChangesFile (slice_index numbers i) Removed b c → (k : ℕ) → i + 1 ≤ k → k < length numbers → IsSome (get c (slice_index numbers k))
-still_there numbers rising i b c left step k le lt = subst IsSome (sym (step.others (slice_index numbers k) other)) (left k (omega arith) lt)
+-- without a record, some of the open files show as much
+bare_shows : {alone fresh : Type 0} (old new : FileList) (p : File → Bool) (first : ℕ) (records : List Record) → ShowsLog alone fresh old first records → (fresh → new ≡ []) → records ≡ [] → open_files new ≡ filter p (open_files old) → IsTrue (is_sorted nat_cmp new) → ShowsLog alone fresh new first records
+bare_shows old new p first records s empty none is sorted =
+    let whole = s.alone_is (s.whole none) in
+    let one : first_of s.segments ≡ 1 = omega (arith, s.begins, whole.2, ap length whole.1) in
+    let nothing : all_records s.segments ≡ [] = s.shown ∙ ap (λ (x : List Record). x ++ records) whole.1 ∙ none in
+    let looked : s.looked ≡ open_files old = sym (ap (λ (x : FileList). x ++ s.looked) whole.0) ∙ s.files in
+    let few = fewer p s.looked s.segments s.each (all_bare (first_of s.segments) s.segments one s.follow nothing) in
+    let start : first_of few.segments ≡ 1 = bare_first few.segments few.bare in
+    record {
+      rising = sorted;
+      older = [];
+      looked = open_files new;
+      files = refl;
+      segments = few.segments;
+      each = subst (λ (files : List File). AllZip IsSegment files few.segments) (sym (is ∙ sym (ap (filter p) looked))) few.each;
+      follow = bare_follow (first_of few.segments) few.segments start few.bare;
+      earlier = [];
+      begins = omega (arith, start, whole.2);
+      shown = bare_records few.segments few.bare ∙ sym none;
+      alone_is = λ is. (refl, refl, whole.2);
+      whole = λ same. s.whole none;
+      fresh_is = λ fresh. none_order (first + length records) new few.segments (empty fresh)
+          (none_looked new [] (open_files new) few.segments (empty fresh) refl (subst (λ (files : List File). AllZip IsSegment files few.segments) (sym (is ∙ sym (ap (filter p) looked))) few.each));
+    }
+
+-- the same open files spell the same
+spelled_alike : (old new : FileList) (segments : List WholeSegment) (log : Log) → SpellsBy old segments log → open_files new ≡ open_files old → IsTrue (is_sorted nat_cmp new) → SpellsBy new segments log
+spelled_alike old new segments log s is sorted = record { rising = sorted; older = s.older; looked = s.looked; files = s.files ∙ sym is; each = s.each; follow = s.follow; enough = s.enough; shown = s.shown }
+
+-- ---- places
+
+zip_numbers : (files : List File) (segments : List WholeSegment) → AllZip IsSegment files segments → numbers_of files ≡ map (λ (s : WholeSegment). s.number) segments
+zip_numbers [] [] each = refl
+zip_numbers [] (s ∷ segments) each = absurd each
+zip_numbers (f ∷ files) [] each = absurd each
+zip_numbers (f ∷ files) (s ∷ segments) each =
+    ap (λ (n : ℕ). n ∷ numbers_of files) (sym each.0.number) ∙ ap (λ (l : List ℕ). s.number ∷ l) (zip_numbers files segments each.1)
+
+place_numbers : (segments : List WholeSegment) → map (λ (s : WholeSegment). s.number) segments ≡ map (λ (p : ℕ × ℕ). p.0) (places_of segments)
+place_numbers [] = refl
+place_numbers (s ∷ segments) = ap (λ (l : List ℕ). s.number ∷ l) (place_numbers segments)
+
+same_numbers : (segments others : List WholeSegment) → places_of others ≡ places_of segments → map (λ (s : WholeSegment). s.number) others ≡ map (λ (s : WholeSegment). s.number) segments
+same_numbers segments others same = place_numbers others ∙ ap (map (λ (p : ℕ × ℕ). p.0)) same ∙ sym (place_numbers segments)
+
+abbrev least : List ℕ → ℕ
+least [] = 0
+least (n ∷ numbers) = n
+
+-- the files before those of the segments are below segments at the same places
+below_segments : (older looked : List File) (others segments : List WholeSegment) → AllZip IsSegment looked others → map (λ (s : WholeSegment). s.number) others ≡ map (λ (s : WholeSegment). s.number) segments
+    → (others ≡ [] → ⊥) → T (is_sorted nat_cmp (older ++ looked)) → All (λ (f : File). (b : List ℕ) → is_below segments (f.0, b) ≡ true) older
+below_segments older looked [] segments each same some sorted = absurd (some refl)
+below_segments older [] (o ∷ others) segments each same some sorted = absurd each
+below_segments older (h ∷ looked) (o ∷ others) [] each same some sorted = absurd cc
+below_segments older (h ∷ looked) (o ∷ others) (s ∷ segments) each same some sorted =
+    All-weaker (λ (f : File). f.0 < h.0) (λ (f : File). (b : List ℕ) → is_below (s ∷ segments) (f.0, b) ≡ true)
+    (λ f lt b. lt-ltb f.0 s.number (omega (arith, lt, each.0.number, ap least same))) older (lower_before older h looked sorted)
+
+some_others : (old : FileList) (others : List WholeSegment) (log : Log) → SpellsBy old others log → (log.records ≡ [] → ⊥) → others ≡ [] → ⊥
+some_others old [] log by some none = some (ap (λ (l : Log). l.records) by.shown ∙ drop_all (named_lowest [] - 1) [] (omega arith))
+some_others old (o ∷ others) log by some none = cc
+
+-- ---- what stays
+
+stays : (x y : Option (List ℕ)) (Gone : Type 0) → (x ≡ y) ⊎ (Gone × (x ≡ None)) → x ≡ cond (is_some x) y None
+stays None y Gone by = refl
+stays (Some b) y Gone (inl same) = same
+stays (Some b) y Gone (inr gone) = absurd (some_none gone.1)
   where
-    other : slice_index numbers k ≢ slice_index numbers i
-    other same = omega (arith, AllPairs-from_increasing numbers rising i k 0 (omega arith) lt, same)
+    some_none : Some b ≡ None → ⊥
+    some_none e = cc
 
--- the files up to it are gone
-pub gone_more : (numbers : List ℕ) → IsStrictlyIncreasing numbers → (i : ℕ) → i < length numbers → (b c : Image) → ((k : ℕ) → k < i → get b (slice_index numbers k) ≡ None)
-    → ChangesFile (slice_index numbers i) Removed b c → get c (slice_index numbers i) ≡ None → (k : ℕ) → k < i + 1 → get c (slice_index numbers k) ≡ None
-gone_more numbers rising i inside b c so_far step gone k lt = elim (cases_lt k i) [
-  | inl less ↦ step.others (slice_index numbers k) (λ same. omega (arith, AllPairs-from_increasing numbers rising k i 0 less inside, same)) ∙ so_far k less
-  | inr most ↦ let same : k ≡ i = omega (arith, lt, most) in ap (λ (n : ℕ). get c (slice_index numbers n)) same ∙ gone
-]
+module _ (a d e : Image) (segments : List WholeSegment) (log : Log) (found : Found) (is : IsFound (entries a) segments log found) (thin : MissesSome found.half d e)
+    (fresh : Type 0) (blank : fresh → entries d ≡ []) where
+  abbrev still : File → Bool
+  still f = is_some (get e f.0)
 
-pub all_gone : (numbers : List ℕ) (i : ℕ) → length numbers ≤ i → (c : Image) → ((k : ℕ) → k < i → get c (slice_index numbers k) ≡ None) → All (λ (n : ℕ). get c n ≡ None) numbers
-all_gone numbers i most c gone = All-from_get_or (λ (n : ℕ). get c n ≡ None) numbers 0 (λ k lt. gone k (omega (arith, lt, most)))
+  stay : entries e ≡ filter still (entries d)
+  stay =
+      same_entries nat_cmp nat_cmp_total nat_cmp-IsAntisymmetric (entries e) (where_key nat_cmp (λ (q : ℕ). is_some (get e q)) (entries d)) (entries_sorted e)
+      (is_sorted-where_key nat_cmp (λ (q : ℕ). is_some (get e q)) (entries d) (entries_sorted d))
+      (λ q. sym (get-entries e q) ∙ stays (get e q) (get d q) (Contains found.half q) (thin q) ∙ ap (λ (o : Option (List ℕ)). cond (is_some (get e q)) o None) (get-entries d q)
+      ∙ sym (find-where_key nat_cmp (λ (n : ℕ). is_some (get e n)) q (λ x tied. ap (λ (n : ℕ). is_some (get e n)) (sym (nat_cmp-IsAntisymmetric q x tied))) (entries d)))
 
-module _ {D : Type 0} (g : Ghosts D) (numbers : List ℕ) where
-  pub thin_start : (old : D) → ((c : Image) → g.left_since old (g.moment old) c → g.may_leave old c) → Within g old old (IsThinned numbers (g.may_leave old))
-  thin_start old only c left = (c, only c left, thin_none numbers c)
+  stay_open : open_files (entries e) ≡ filter still (open_files (entries d))
+  stay_open = ap open_files stay ∙ filter_swap still is_open_file (entries d)
 
-  pub thin_step : (n : ℕ) → Contains numbers n → (old mid new : D) → Passes g.moment g.left_since old mid → ((c : Image) → g.may_leave mid c → g.left_since mid (g.moment old) c)
-      → Within g old mid (IsThinned numbers (g.may_leave old)) → Elapses g.moment g.left_since g.may_leave mid new → Follows (ChangesFile n Removed) (g.may_leave mid) (g.may_leave new)
-      → Within g old new (IsThinned numbers (g.may_leave old))
-  thin_step n has old mid new first counts so_far time follows =
-      within_join g old mid new (IsThinned numbers (g.may_leave old)) first time.passes so_far
-      (within_call g mid new (IsThinned numbers (g.may_leave old)) time (λ c left. so_far c (counts c left)) later)
+  none_then : fresh → entries e ≡ []
+  none_then is = stay ∙ ap (filter still) (blank is)
+
+  -- a half-made file among those found
+  half_there : (q : ℕ) → Contains found.half q → Kept (is_half segments) (entries a) q
+  half_there q has =
+      kept_there (is_half segments) (entries a) (entries_sorted a) q
+      (All-contains (λ (n : ℕ). IsSome (find nat_cmp n (filter (is_half segments) (entries a)))) (numbers_of (filter (is_half segments) (entries a))) q
+      (all_numbers_there (filter (is_half segments) (entries a))) (subst (λ (l : List ℕ). Contains l q) is.half_are has))
+
+  -- it isn't below the segments
+  half_above : (q : ℕ) → ((b : List ℕ) → is_below segments (q, b) ≡ true) → Contains found.half q → ⊥
+  half_above q below has =
+      let kept = half_there q has in
+      clash (is_open_file (q, kept.bytes)) (is_below segments (q, kept.bytes)) kept.passes (below kept.bytes)
     where
-      later : (c : Image) → g.may_leave new c → IsThinned numbers (g.may_leave old) c
-      later c left =
-          let from = follows c left in
-          let base = so_far from.0 (counts from.0 from.1) in
-          (base.0, base.1, thin_more numbers n has base.0 from.0 c base.2 from.2)
+      clash : (x y : Bool) → (not x && not y) ≡ true → y ≡ true → ⊥
+      clash true true p q = cc
+      clash false true p q = cc
+      clash true false p q = cc
+      clash false false p q = cc
 
--- ---- and the next segment
+  -- and no file of a segment has its number
+  half_shut : (q : ℕ) → IsSome (find nat_cmp q is.spelled.looked) → Contains found.half q → ⊥
+  half_shut q some has =
+      let half = half_there q has in
+      let open_one = kept_there is_open_file (entries a) (entries_sorted a) q (subst (λ (l : List File). IsSome (find nat_cmp q l)) is.spelled.files (there_behind is.spelled.older is.spelled.looked q some)) in
+      clash half.bytes open_one.bytes half.is open_one.is half.passes open_one.passes
+    where
+      clash : (b o : List ℕ) → find nat_cmp q (entries a) ≡ Some b → find nat_cmp q (entries a) ≡ Some o → is_half segments (q, b) ≡ true → is_open_file (q, o) ≡ true → ⊥
+      clash b o is_b is_o half open_one =
+          let same : b ≡ o = some_same (sym is_b ∙ is_o) in
+          bools (is_open_file (q, b)) (is_below segments (q, b)) half (ap (λ (l : List ℕ). is_open_file (q, l)) same ∙ open_one)
+        where
+          some_same : Some b ≡ Some o → b ≡ o
+          some_same e = cc
 
--- what isn't there stays so
-pub thin_absent : (numbers : List ℕ) (a b : Image) → Thinned numbers a b → (q : ℕ) → get a q ≡ None → get b q ≡ None
-thin_absent numbers a b by q none = ⊎_elim (λ same. same ∙ none) (λ gone. gone.1) (by q)
+          bools : (x y : Bool) → (not x && not y) ≡ true → x ≡ true → ⊥
+          bools true y p q = cc
+          bools false y p q = cc
 
-pub opening_thinned : (half : List ℕ) (number first : ℕ) (outcomes : Image → Type 0) → ((d : Image) → outcomes d → get d number ≡ None)
-    → (c : Image) → IsThinned half outcomes c → IsOpening half number first outcomes c
-opening_thinned half number first outcomes absent c thin = record {
-  base = thin.0;
-  was = thin.1;
-  thinned = c;
-  by = thin.2;
-  elsewhere = λ q other. refl;
-  making = subst (IsInTheMaking number first) (sym (thin_absent half thin.0 c thin.2 number (absent thin.0 thin.1))) tt;
-}
+  module _ (others : List WholeSegment) (by : SpellsBy (entries d) others log) (same : places_of others ≡ places_of segments) (some : log.records ≡ [] → ⊥) where
+    numbers_alike : numbers_of is.spelled.looked ≡ numbers_of by.looked
+    numbers_alike = zip_numbers is.spelled.looked segments is.spelled.each ∙ sym (same_numbers segments others same) ∙ sym (zip_numbers by.looked others by.each)
 
-pub opening_made : (half : List ℕ) (number first : ℕ) (outcomes : Image → Type 0) (e c : Image) → IsThinned half outcomes e → SameElsewhere number e c → IsInTheMaking number first (get c number)
-    → IsOpening half number first outcomes c
-opening_made half number first outcomes e c thin elsewhere making = record { base = thin.0; was = thin.1; thinned = e; by = thin.2; elsewhere = elsewhere; making = making }
+    -- no open file is one of those
+    none_half : All (λ (f : File). Contains found.half f.0 → ⊥) (open_files (entries d))
+    none_half = subst (All (λ (f : File). Contains found.half f.0 → ⊥)) by.files (All-append (λ (f : File). Contains found.half f.0 → ⊥) by.older by.looked before at_places)
+      where
+        before : All (λ (f : File). Contains found.half f.0 → ⊥) by.older
+        before =
+            All-weaker (λ (f : File). (b : List ℕ) → is_below segments (f.0, b) ≡ true) (λ (f : File). Contains found.half f.0 → ⊥) (λ f below. half_above f.0 below) by.older
+            (below_segments by.older by.looked others segments by.each (same_numbers segments others same) (some_others (entries d) others log by some)
+            (subst (λ (l : List File). T (is_sorted nat_cmp l)) (sym by.files) (sorted_kept is_open_file (entries d) (entries_sorted d))))
+
+        at_places : All (λ (f : File). Contains found.half f.0 → ⊥) by.looked
+        at_places =
+            All-weaker (λ (f : File). IsSome (find nat_cmp f.0 is.spelled.looked)) (λ (f : File). Contains found.half f.0 → ⊥) (λ f there. half_shut f.0 there) by.looked
+            (by_numbers (λ (n : ℕ). IsSome (find nat_cmp n is.spelled.looked)) by.looked
+            (subst (All (λ (n : ℕ). IsSome (find nat_cmp n is.spelled.looked))) numbers_alike (all_numbers_there is.spelled.looked)))
+
+    open_stay : open_files (entries e) ≡ open_files (entries d)
+    open_stay = stay_open ∙ filter_whole still (open_files (entries d)) (λ k f lt. one (slice_index_or (open_files (entries d)) k f) (none_half k f lt) (open_there k f lt))
+      where
+        open_there : All (λ (f : File). IsSome (find nat_cmp f.0 (entries d))) (open_files (entries d))
+        open_there = All-filter is_open_file (λ (f : File). IsSome (find nat_cmp f.0 (entries d))) (entries d) (all_there (entries d))
+
+        one : (f : File) → (Contains found.half f.0 → ⊥) → IsSome (find nat_cmp f.0 (entries d)) → still f ≡ true
+        one f other there = ⊎_elim (λ was. ap is_some (was ∙ get-entries d f.0) ∙ there) (λ gone. absurd (other gone.0)) (thin f.0)
+
+    some_shows : ShowsLog (log.records ≡ []) fresh (entries e) log.first log.records
+    some_shows = base_shows (entries e) others log none_then (spelled_alike (entries d) (entries e) others log by open_stay (rising e))
+
+  -- once some of the half-made files are gone
+  pub thin_shows : SpellsAlike (entries a) (entries d) → ShowsLog (log.records ≡ []) fresh (entries e) log.first log.records
+  thin_shows alike = at log.records refl (alike log segments is.spelled)
+    where
+      some_not : (r : Record) (rs : List Record) → r ∷ rs ≡ [] → ⊥
+      some_not r rs none = cc
+
+      at : (records : List Record) → log.records ≡ records → ((others : List WholeSegment) × SpellsBy (entries d) others log × ((log.records ≡ []) ⊎ (places_of others ≡ places_of segments))) → ShowsLog (log.records ≡ []) fresh (entries e) log.first log.records
+      at [] none told = bare_shows (entries d) (entries e) still log.first log.records (base_shows (entries d) told.0 log blank told.1) none_then none stay_open (rising e)
+      at (r ∷ rs) some told = ⊎_elim (λ none. absurd (some_not r rs (sym some ∙ none))) (λ same. some_shows told.0 told.1 same (λ none. some_not r rs (sym some ∙ none))) told.2
+
+-- ---- the opening
+
+whole_log : (log : Log) → log.first ≡ named_lowest log.records → from_lowest log.first log.records ≡ log
+whole_log log lowest =
+    let zero : named_lowest log.records - log.first ≡ 0 = omega (arith, lowest) in
+    same_log (named_lowest log.records) (drop (named_lowest log.records - log.first) log.records) (sym lowest) (ap (λ (n : ℕ). drop n log.records) zero)
+  where
+    same_log : (first : ℕ) (records : List Record) → first ≡ log.first → records ≡ log.records → ◌≡◌ {A = Log} (record { first = first; records = records }) log
+    same_log first records p q i = record { first = p i; records = q i }
+
+module _ (a : Image) (segments : List WholeSegment) (log : Log) (found : Found) (is : IsFound (entries a) segments log found) (outcomes : Image → Type 0) (alike : (d : Image) → outcomes d → SpellsAlike (entries a) (entries d))
+    (number first : ℕ) (next : first ≡ found.next) (low : 1 ≤ number) (high : number < 2 ^ 62) (least_first : 1 ≤ first) (most : first < 2 ^ 62)
+    (none : (d : Image) → outcomes d → (q : ℕ) → number ≤ q → get d q ≡ None) (c : Image) (opening : IsOpening found.half number first outcomes c) (fresh : Type 0) (blank : fresh → (d : Image) → outcomes d → entries d ≡ []) (at_one : fresh → number ≡ 1) where
+  next_first : first ≡ log.first + length log.records
+  next_first = next ∙ is.next_is
+
+  base : ShowsLog (log.records ≡ []) fresh (entries opening.thinned) log.first log.records
+  base = thin_shows a opening.base opening.thinned segments log found is opening.by fresh (λ f. blank f opening.base opening.was) (alike opening.base opening.was)
+
+  none_thinned : (q : ℕ) → number ≤ q → get opening.thinned q ≡ None
+  none_thinned q le = thin_absent found.half opening.base opening.thinned opening.by q (none opening.base opening.was q le)
+
+  takes : fresh → TakesNext number (log.first + length log.records) (entries opening.thinned) base.segments
+  takes f = shows_takes base number (none_then a opening.base opening.thinned segments log found is opening.by fresh (λ g. blank g opening.base opening.was) f) (at_one f)
+
+  pub opening_shows : ShowsLog (log.records ≡ []) fresh (entries c) log.first log.records
+  opening_shows = one_making log.first log.records number first opening.thinned c base takes opening.elsewhere none_thinned next_first low high least_first most opening.making
+
+  pub opening_rests : get c number ≡ Some (empty_segment number first) → EndsWithSegment (log.records ≡ []) fresh (entries c) log.first log.records (new_segment number first)
+  opening_rests made = one_next log.first log.records number first opening.thinned c base takes opening.elsewhere none_thinned next_first low high least_first most made
+
+  pub opening_spells : Spells (entries c) log
+  opening_spells =
+      let lowest = found_lowest a segments log found is in
+      subst (Spells (entries c)) (whole_log log lowest) (spells (entries c) log.first log.records opening_shows (λ some. omega (arith, lowest)))

@@ -5,8 +5,8 @@ use Rattle.frs_disk.specs.Disk.{Image}
 use Rattle.frs_writer.specs.Invariant.{IsKept}
 use Rattle.frs_writer.specs.Writer.{WriterView}
 use Rattle.frs_writer.specs.Writing.{LeavesLog, LeavesShown, IsDurable}
-use Rattle.frs_writer.proofs.Spelled.{spells_from, durable_spells, newest_synced}
-use Rattle.frs_writer.proofs.Whole.{from_whole, durable_whole}
+use Rattle.frs_writer.proofs.SpellsFrom.{spells_from, durable_spells, newest_synced}
+use Rattle.frs_writer.proofs.HoldsLog.{from_whole, durable_whole}
 
 module _ {D : Type 0} (g : Ghosts D) (old w : WriterView D) (kept : IsKept g w) (told : IsTrue (g.tells old.disk) → IsTrue (g.tells w.disk)) where
   -- what is shown is spelled

@@ -20,9 +20,9 @@ use Rattle.frs_writer.specs.LogImages.{ShowsLog}
 use Rattle.frs_writer.specs.Places.{with_newest_grown}
 use Rattle.frs_writer.specs.Writer.{WriterView, IsLog, WasEmpty, IsWellOpened}
 use Rattle.frs_writer.specs.Writing.{WritesGroup, IsRolled, TakesMore, SpellsFrom, HoldsFrom, LeavesLog, LeavesShown, IsDurable, HasWriteCause, HasPutCause}
-use Rattle.frs_writer.proofs.Logs.{part, with_more, placed_less}
-use Rattle.frs_writer.proofs.Whole.{from_whole}
-use Rattle.frs_writer.proofs.Written.{not_due}
+use Rattle.frs_writer.proofs.Parted.{part, with_more, placed_less}
+use Rattle.frs_writer.proofs.HoldsLog.{from_whole}
+use Rattle.frs_writer.proofs.WritesGroup.{not_due}
 
 -- ---- a log with more records
 

@@ -11,5 +11,5 @@ abbrev pub IsShut : List ℕ → Option (List ℕ) → Type 0
 IsShut front file = IsSomeAnd file (λ bytes. (gate : ℕ) × (gate ≢ 1) × (take (length front + 1) bytes ≡ front ++ gate ∷ []))
 
 -- what is behind the gate of a chunk: the head, the records, and the closed gate of the next one
-abbrev pub sealed : ℕ → ℕ → List ℕ → List ℕ
-sealed first count body = chunk_head (length body) count first ++ body ++ 0 ∷ []
+abbrev pub sealed_chunk : ℕ → ℕ → List ℕ → List ℕ
+sealed_chunk first count body = chunk_head (length body) count first ++ body ++ 0 ∷ []

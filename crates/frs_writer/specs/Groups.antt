@@ -10,7 +10,7 @@ use Rattle.frs_disk.specs.Frames.{IsSynced, Within, ChangesOneFile}
 use Rattle.frs_types.specs.declared.limits.TheConstants.{NUMBER_LIMIT}
 use Rattle.frs_segment.specs.declared.format.TheConstants.{BODY_LIMIT, CHUNK_HEAD}
 use Rattle.frs_segment.specs.declared.layout.Segment.{Segment}
-use Rattle.frs_writer.specs.Gates.{IsShut, sealed}
+use Rattle.frs_writer.specs.Gates.{IsShut, sealed_chunk}
 use Rattle.frs_writer.specs.Chunk.{ChunkView}
 use Rattle.frs_writer.specs.Places.{with_chunk_place}
 
@@ -23,7 +23,7 @@ abbrev pub IsTooLong : List (List ℕ) → List ℕ → Type 0
 IsTooLong group bytes = BODY_LIMIT < length (joined_records group) + length bytes
 
 -- So far these records were taken into a chunk, behind the one that was kept from before.
-pub record Gathered (before now : TakerView) (kept : Option (List ℕ)) (group : List (List ℕ)) : Type 0 where
+pub record HasGathered (before now : TakerView) (kept : Option (List ℕ)) (group : List (List ℕ)) : Type 0 where
   pub ring : (now.ring ≡ before.ring) × (now.first ≡ before.first)
   pub known : before.known ≤ now.known
   pub sure : before.sure ≤ now.sure
@@ -53,7 +53,7 @@ abbrev pub HasGroup : ChunkView → List (List ℕ) → Type 0
 HasGroup chunk group = chunk ≡ record { count = length group; bytes = replicate CHUNK_HEAD 0 ++ joined_records group }
 
 -- One more record was taken, and is in the chunk.
-pub record Added (before now : TakerView) (chunk after : ChunkView) : Type 0 where
+pub record AddsRecord (before now : TakerView) (chunk after : ChunkView) : Type 0 where
   pub bytes : List ℕ
   pub took : Took before bytes now
   pub within : next_taken before < NUMBER_LIMIT
@@ -61,7 +61,7 @@ pub record Added (before now : TakerView) (chunk after : ChunkView) : Type 0 whe
   pub added : after ≡ record { count = chunk.count + 1; bytes = chunk.bytes ++ bytes }
 
 -- No more is known, or one more was taken that doesn't fit, and is kept.
-pub record Stopped (before now : TakerView) (still : Option (List ℕ)) (chunk after : ChunkView) : Type 0 where
+pub record StopsGroup (before now : TakerView) (still : Option (List ℕ)) (chunk after : ChunkView) : Type 0 where
   pub chunk_is : after ≡ chunk
   pub why : ((still ≡ None) × (now ≡ before) × (before.known ≡ length before.taken))
       ⊎ ((bytes : List ℕ) × (still ≡ Some bytes) × Took before bytes now × (next_taken before < NUMBER_LIMIT)
@@ -76,11 +76,11 @@ pub record PutsGroup {D : Type 0} (g : Ghosts D) (old new : D) (before after : S
   pub images : IsTrue (g.tells old) → Within g old new (λ c.
       IsShut (take (before.length - 1) (bytes_at (g.reads old) before.number)) (get c before.number)
       ⊎ (get c before.number ≡ Some (take (before.length - 1) (bytes_at (g.reads old) before.number)
-      ++ 1 ∷ sealed before.«end» (length group) (joined_records group))))
+      ++ 1 ∷ sealed_chunk before.«end» (length group) (joined_records group))))
   pub counted : IfOk result (λ count. count ≡ length group)
   pub grown_is : OnOk result (after ≡ with_chunk_place (length group) (length (joined_records group)) before)
   pub durable : OnOk result (IsSynced g new before.number)
   pub written : OnOk result (IsTrue (g.tells old) → get (g.reads new) before.number
       ≡ Some (take (before.length - 1) (bytes_at (g.reads old) before.number)
-      ++ 1 ∷ sealed before.«end» (length group) (joined_records group)))
+      ++ 1 ∷ sealed_chunk before.«end» (length group) (joined_records group)))
   pub refused : OnErr result (after ≡ before)

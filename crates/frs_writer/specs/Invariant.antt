@@ -14,7 +14,7 @@ use Rattle.frs_segment.specs.Scanning.{places_of_segment}
 use Rattle.frs_slots.specs.Views.{next_taken}
 use Rattle.frs_writer.specs.Gates.{IsAtGate}
 use Rattle.frs_writer.specs.Places.{HasLength}
-use Rattle.frs_writer.specs.LogImages.{ShowsLog, Rests}
+use Rattle.frs_writer.specs.LogImages.{ShowsLog, EndsWithSegment}
 use Rattle.frs_writer.specs.Writer.{WriterView, IsLog, WasEmpty, IsWellOpened}
 
 -- ---- numbers
@@ -62,11 +62,11 @@ durable_of w log = record log { records = take (w.synced + 1 - log.first) log.re
 -- Each image that a crash may leave shows what is durable. While nothing was cut short it shows that and nothing more, the
 -- newest file is the same in all of them, and the writer's segments are those that are read. The log stands alone where it
 -- was empty at the opening.
-pub record Holds {D : Type 0} (g : Ghosts D) (w : WriterView D) (log : Log) : Type 0 where
+pub record ShowsDurable {D : Type 0} (g : Ghosts D) (w : WriterView D) (log : Log) : Type 0 where
   pub next_is : next_lsn log ≡ next_taken w.taker
   pub each : (c : Image) → g.may_leave w.disk c → ShowsFrom (WasEmpty g w.opened) (LeftNoFile g w.opened) w.synced log (entries c)
   pub newest : w.ended ≡ None → (last : WholeSegment)
-      × ((c : Image) → g.may_leave w.disk c → Rests (WasEmpty g w.opened) (LeftNoFile g w.opened) (entries c) log.first (durable_of w log).records last)
+      × ((c : Image) → g.may_leave w.disk c → EndsWithSegment (WasEmpty g w.opened) (LeftNoFile g w.opened) (entries c) log.first (durable_of w log).records last)
       × ((before : List WholeSegment) × (w.segments ≡ map places_of_segment (before ++ last ∷ [])))
 
 -- ---- all of it
@@ -75,4 +75,4 @@ pub record IsKept {D : Type 0} (g : Ghosts D) (w : WriterView D) : Type 0 where
   pub counted : IsCounted w
   pub told : g.tells w.disk ≡ g.tells w.opened
   pub at_work : w.ended ≡ None → IsTrue (g.tells w.disk) → IsAtWork g w.disk counted.newest
-  pub holds : IsTrue (g.tells w.disk) → IsWellOpened g w.opened → (log : Log) → IsLog g w log → IsPlaced log → Holds g w log
+  pub holds : IsTrue (g.tells w.disk) → IsWellOpened g w.opened → (log : Log) → IsLog g w log → IsPlaced log → ShowsDurable g w log

@@ -5,17 +5,17 @@ use Rattle.frs_disk.specs.Disk.{Image, SameElsewhere}
 use Rattle.frs_segment.specs.Front.{IsInTheMaking}
 
 -- the old files, but that some of these are gone
-abbrev pub Thinned : List ℕ → Image → Image → Type 0
-Thinned numbers old new = (q : ℕ) → (get new q ≡ get old q) ⊎ (Contains numbers q × (get new q ≡ None))
+abbrev pub MissesSome : List ℕ → Image → Image → Type 0
+MissesSome numbers old new = (q : ℕ) → (get new q ≡ get old q) ⊎ (Contains numbers q × (get new q ≡ None))
 
-abbrev pub IsThinned : List ℕ → (Image → Type 0) → Image → Type 0
-IsThinned numbers outcomes c = (d : Image) × outcomes d × Thinned numbers d c
+abbrev pub IsMissingSome : List ℕ → (Image → Type 0) → Image → Type 0
+IsMissingSome numbers outcomes c = (d : Image) × outcomes d × MissesSome numbers d c
 
 -- the old files, but that some of these are gone, and that this segment is being made
 pub record IsOpening (numbers : List ℕ) (number first : ℕ) (outcomes : Image → Type 0) (c : Image) : Type 0 where
   pub base : Image
   pub was : outcomes base
   pub thinned : Image
-  pub by : Thinned numbers base thinned
+  pub by : MissesSome numbers base thinned
   pub elsewhere : SameElsewhere number thinned c
   pub making : IsInTheMaking number first (get c number)

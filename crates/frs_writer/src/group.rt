@@ -1,7 +1,7 @@
 // The records that one chunk gets.
 ghost use Rattle.std.specs.Prelude.{◌≡◌, ◌<◌, ◌≤◌, ◌^◌, ◌+◌, List, ℕ, None, length, IsTrue};
 ghost use Rattle.frs_writer.specs.Chunk.{IsOpenChunk};
-ghost use Rattle.frs_writer.specs.Groups.{GathersGroup, HasGroup, Added, Stopped};
+ghost use Rattle.frs_writer.specs.Groups.{GathersGroup, HasGroup, AddsRecord, StopsGroup};
 
 use crate::chunk::Chunk;
 use frs_frame::Framed;
@@ -12,8 +12,8 @@ use frs_slots::Taker;
 fn take_one(taker: &mut Taker, kept: &mut Option<Framed>, chunk: &mut Chunk) -> bool
     requires none { kept.old ≡ None }
     requires chunk { IsOpenChunk chunk.old × (chunk.old.count < MOST_RECORDS) }
-    ensures added { IsTrue result → (kept.new ≡ None) × Added taker.old taker.new chunk.old chunk.new }
-    ensures stopped { (IsTrue result → ⊥) → Stopped taker.old taker.new kept.new chunk.old chunk.new }
+    ensures added { IsTrue result → (kept.new ≡ None) × AddsRecord taker.old taker.new chunk.old chunk.new }
+    ensures stopped { (IsTrue result → ⊥) → StopsGroup taker.old taker.new kept.new chunk.old chunk.new }
 {
     let Ok(framed) = taker.take() else {
         return false;

@@ -7,7 +7,7 @@ ghost use Rattle.frs_disk.specs.Frames.{CanBeMade, IsSynced, Within, GoesOn};
 ghost use Rattle.frs_segment.specs.Front.{empty_segment};
 ghost use Rattle.frs_segment.specs.Scanning.{places_of_segment};
 ghost use Rattle.frs_writer.specs.LogImages.{new_segment};
-ghost use Rattle.frs_writer.specs.Setup.{Thinned, IsThinned, IsOpening};
+ghost use Rattle.frs_writer.specs.Setup.{MissesSome, IsMissingSome, IsOpening};
 
 use crate::chunk::Chunk;
 use frs_disk::{Disk, Fault};
@@ -87,9 +87,9 @@ fn remove_all<D: Disk>(disk: &mut D, numbers: &[u64]) -> Result<(), Fault>
     requires there { IsTrue (D.tells disk.old) → All (λ n. IsSome (get (D.reads disk.old) n)) numbers.now }
     requires rising { IsTrue (D.tells disk.old) → IsStrictlyIncreasing numbers.now }
 
-    ensures images { Within D.Disk disk.old disk.new (IsThinned numbers.now (D.may_leave disk.old)) }
+    ensures images { Within D.Disk disk.old disk.new (IsMissingSome numbers.now (D.may_leave disk.old)) }
     ensures removed { IsTrue (D.tells disk.old)
-        → Thinned numbers.now (D.reads disk.old) (D.reads disk.new) }
+        → MissesSome numbers.now (D.reads disk.old) (D.reads disk.new) }
     ensures gone { OnOk result (IsTrue (D.tells disk.old)
         → All (λ n. get (D.reads disk.new) n ≡ None) numbers.now) }
     ensures pending { (n : ℕ) → D.removing disk.new n → D.removing disk.old n ⊎ Contains numbers.now n }

@@ -8,9 +8,9 @@ ghost use Rattle.frs_segment.specs.Stores.{IsFound};
 use super::*;
 use frs_disk::{Call, FaultPlan, Made, MemDisk};
 use frs_frame::{Framed, encode_payload};
-use frs_segment::{ChunkPlace, Found, Numbers, ScanFault, Segments, read_chunk, scan};
+use frs_segment::{ChunkPlace, Found, ScanFault, read_chunk, scan};
 use frs_slots::{Drawer, Taker, ring};
-use frs_types::{Action, Key, MapId, NoMemory, Value, WordFault};
+use frs_types::{Action, Key, MapId, NoMemory, Sequence, Value, WordFault};
 use std::alloc::Global;
 use std::test::Fail;
 
@@ -54,7 +54,7 @@ const BESIDE_HALF: [Asked; 8] = [
 fn asked_by(made: &Made) -> Asked {
     match &made.call {
         Call::Create { number } => Asked::Create(*number),
-        Call::Write { number, at, bytes } => Asked::Write(*number, *at, bytes.as_slice().len()),
+        Call::Write { number, at, bytes } => Asked::Write(*number, *at, bytes.items().len()),
         Call::Sync { number } => Asked::Sync(*number),
         Call::Remove { number } => Asked::Remove(*number),
         _ => Asked::Look,
@@ -106,9 +106,9 @@ fn nothing(alloc: Global) -> Found
     ensures { IsFound [] [] (record { first = 1; records = [] }) result }
 {
     Found {
-        segments: Segments::of(Vec::new(alloc)),
-        half: Numbers::of(Vec::new(alloc)),
-        older: Numbers::of(Vec::new(alloc)),
+        segments: Sequence::of(Vec::new(alloc)),
+        half: Sequence::of(Vec::new(alloc)),
+        older: Sequence::of(Vec::new(alloc)),
         greatest: 0,
         next: 1,
         named: 1,
@@ -148,7 +148,7 @@ fn has_two_marks(writer: &Writer<MemDisk>) -> bool {
         count: 2,
         body: 50,
     };
-    let [only] = segment.chunks.places() else {
+    let [only] = segment.chunks.items() else {
         return false;
     };
     *only == place && (segment.number, segment.first, segment.end, segment.length) == (1, 1, 3, 90)
@@ -259,7 +259,7 @@ fn is_read_as(
     let mut disk = disk_with(alloc, number, bytes.to_vec(alloc)?)?;
     let segment = scan(alloc, &mut disk, number)?;
     let mut found = Vec::new(alloc);
-    for place in segment.chunks.places() {
+    for place in segment.chunks.items() {
         found.push(count_at(alloc, number, bytes, place)?)?;
     }
     Ok((segment.first, segment.end, segment.length) == numbers && found.as_slice() == counts)
@@ -305,9 +305,9 @@ fn half_made(alloc: Global) -> Result<Found, NoMemory>
     let mut half = Vec::new(alloc);
     half.push(1)?;
     Ok(Found {
-        segments: Segments::of(Vec::new(alloc)),
-        half: Numbers::of(half),
-        older: Numbers::of(Vec::new(alloc)),
+        segments: Sequence::of(Vec::new(alloc)),
+        half: Sequence::of(half),
+        older: Sequence::of(Vec::new(alloc)),
         greatest: 1,
         next: 1,
         named: 1,

@@ -1,5 +1,5 @@
 use Rattle.std.proofs.Common.{◌≡◌, ℕ, ◌+◌, ◌++◌, List, [], ◌∷◌, arith, sym, ◌∙◌, subst, length-append}
-use Rattle.frs_writer.proofs.Gathering.{one_more, with_kept, without_kept, Begun}
+use Rattle.frs_writer.proofs.GathersGroup.{one_more, with_kept, without_kept, Begun}
 use Rattle.frs_writer.proofs.group.gather.Goals.{in-Some, in_default}
 use Rattle.frs_writer.proofs.group.gather.Goals as goal
 

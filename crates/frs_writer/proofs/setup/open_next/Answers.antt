@@ -3,7 +3,7 @@ use Rattle.frs_disk.specs.Disk.{Image}
 use Rattle.frs_disk.proofs.Frames.{goes_on_join, changes_go_on}
 use Rattle.frs_disk.proofs.Moments.{within_join}
 use Rattle.frs_writer.specs.Setup.{IsOpening}
-use Rattle.frs_writer.proofs.IsOpening.{opening_thinned, opening_made}
+use Rattle.frs_writer.proofs.MissesSome.{opening_thinned, opening_made}
 use Rattle.frs_writer.proofs.setup.open_next.Goals as goal
 
 pub returns-in_err-remove_all-clause-images : goal.returns-in_err-remove_all-clause-images

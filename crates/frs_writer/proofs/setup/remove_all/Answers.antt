@@ -2,7 +2,7 @@ use Rattle.std.proofs.Common.{◌∙◌, inl, inr, ⊎_elim, ℕ, IsTrue, Contai
 use Rattle.std.specs.Prelude.{slice_index}
 use Rattle.std.proofs.lemmas.List.Elements.{Contains-get_or}
 use Rattle.frs_disk.proofs.Frames.{goes_on_none, goes_on_join}
-use Rattle.frs_writer.proofs.IsOpening.{thin_none, thin_more, still_there, gone_more, all_gone, thin_start, thin_step}
+use Rattle.frs_writer.proofs.MissesSome.{thin_none, thin_more, still_there, gone_more, all_gone, thin_start, thin_step}
 use Rattle.frs_writer.proofs.setup.remove_all.Goals as goal
 
 pub loop-number-init : goal.loop-number-init

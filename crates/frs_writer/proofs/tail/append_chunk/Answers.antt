@@ -8,7 +8,7 @@ use Rattle.frs_disk.proofs.Frames.{changes_one_join}
 use Rattle.frs_disk.proofs.Moments.{within_join}
 use Rattle.frs_segment.specs.Front.{HasAnyGate}
 use Rattle.frs_writer.specs.Gates.{IsShut}
-use Rattle.frs_writer.proofs.Gates.{at_gate, put_bytes, set_gate, shut_stage, gate_stage}
+use Rattle.frs_writer.proofs.IsShut.{at_gate, put_bytes, set_gate, shut_stage, gate_stage}
 use Rattle.frs_writer.proofs.tail.append_chunk.Goals as goal
 
 pub returns-in_err-put_body-clause-images : goal.returns-in_err-put_body-clause-images

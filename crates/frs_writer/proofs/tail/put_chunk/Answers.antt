@@ -2,10 +2,10 @@ use Rattle.std.proofs.Common.{◌≡◌, ◌⊎◌, ℕ, ◌+◌, ◌-◌, ◌++
 use Rattle.std.specs.FinMap.{get}
 use Rattle.frs_disk.specs.Disk.{bytes_at}
 use Rattle.frs_segment.specs.declared.layout.ChunkPlace.{ChunkPlace}
-use Rattle.frs_writer.specs.Gates.{IsShut, sealed}
+use Rattle.frs_writer.specs.Gates.{IsShut, sealed_chunk}
 use Rattle.frs_writer.specs.Chunk.{ChunkView}
 use Rattle.frs_writer.specs.Groups.{joined_records}
-use Rattle.frs_writer.proofs.Gathering.{sealed_bytes, body_is}
+use Rattle.frs_writer.proofs.GathersGroup.{sealed_bytes, body_is}
 use Rattle.frs_writer.proofs.tail.put_chunk.Goals as goal
 
 pub returns-in-Ok-clause-put : goal.returns-in-Ok-clause-put
@@ -13,7 +13,7 @@ returns-in-Ok-clause-put g c = λ group has.
     let d = g.D.Disk in
     let n : ℕ = c.args.segment.now.number in
     let front : List ℕ = take (c.args.segment.now.length - 1) (bytes_at (d.reads c.args.disk.now) n) in
-    let bytes : c.bytes.result.now ≡ sealed c.args.segment.now.«end» (length group) (joined_records group) =
+    let bytes : c.bytes.result.now ≡ sealed_chunk c.args.segment.now.«end» (length group) (joined_records group) =
     c.bytes.ensures ∙ ap (λ (x : ChunkView). x.bytes) c.seal.ensures ∙ sealed_bytes c.args.segment.now.«end» c.args.chunk.now group has in
     let count : c.count.result ≡ length group = c.count.ensures ∙ ap (λ (x : ChunkView). x.count) has in
     let long : c.body_len.result ≡ length (joined_records group) = c.body_len.ensures ∙ body_is c.args.chunk.now group has in
@@ -39,7 +39,7 @@ returns-in-Err-clause-put g c = λ group has.
     let d = g.D.Disk in
     let n : ℕ = c.args.segment.now.number in
     let front : List ℕ = take (c.args.segment.now.length - 1) (bytes_at (d.reads c.args.disk.now) n) in
-    let bytes : c.bytes.result.now ≡ sealed c.args.segment.now.«end» (length group) (joined_records group) =
+    let bytes : c.bytes.result.now ≡ sealed_chunk c.args.segment.now.«end» (length group) (joined_records group) =
     c.bytes.ensures ∙ ap (λ (x : ChunkView). x.bytes) c.seal.ensures ∙ sealed_bytes c.args.segment.now.«end» c.args.chunk.now group has in
     record {
       frame = c.append_chunk.ensures.frame;

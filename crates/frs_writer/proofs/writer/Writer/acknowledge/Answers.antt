@@ -1,6 +1,6 @@
 use Rattle.std.proofs.Common.{◌-◌}
 use Rattle.frs_writer.specs.Inside.{view_of}
-use Rattle.frs_writer.proofs.Rolled.{kept_noted}
+use Rattle.frs_writer.proofs.IsRolled.{kept_noted}
 use Rattle.frs_writer.proofs.writer.Writer.acknowledge.Goals as goal
 
 pub invariant_of-self : goal.invariant_of-self

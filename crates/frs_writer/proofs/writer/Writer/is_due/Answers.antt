@@ -4,7 +4,7 @@ use Rattle.std.proofs.lemmas.Bool.{le-leb, lt-leb}
 use Rattle.frs_segment.specs.declared.layout.Segment.{Segment}
 use Rattle.frs_writer.specs.Places.{length_of_newest}
 use Rattle.frs_writer.specs.Writing.{is_due}
-use Rattle.frs_writer.proofs.Segments.{newest_length, newest_get}
+use Rattle.frs_writer.proofs.Places.{newest_length, newest_get}
 use Rattle.frs_writer.proofs.writer.Writer.is_due.Goals as goal
 
 pub returns-then-newest-ge-FILE_LIMIT : goal.returns-then-newest-ge-FILE_LIMIT

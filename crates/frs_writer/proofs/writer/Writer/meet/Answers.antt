@@ -1,7 +1,7 @@
 use Rattle.std.proofs.Common.{ap}
 use Rattle.frs_slots.specs.Views.{TakerView}
 use Rattle.frs_writer.specs.Inside.{view_of}
-use Rattle.frs_writer.proofs.Rolled.{kept_same}
+use Rattle.frs_writer.proofs.IsRolled.{kept_same}
 use Rattle.frs_writer.proofs.writer.Writer.meet.Goals as goal
 
 pub invariant_of-self : goal.invariant_of-self

@@ -2,8 +2,8 @@ use Rattle.std.proofs.Common.{◌≡◌, ◌∙◌, ◌<◌, ◌+◌, ℕ, IsSom
 use Rattle.std.specs.Prelude.{All}
 use Rattle.std.specs.List.Sorted.{IsStrictlyIncreasing}
 use Rattle.std.specs.FinMap.{get}
-use Rattle.frs_writer.proofs.Beginning.{unchanged_found, opening_found, kept_begun, durable_none, none_failed}
-use Rattle.frs_writer.proofs.Found.{found_half, found_rising, found_above, found_none_removed}
+use Rattle.frs_writer.proofs.WriterNew.{unchanged_found, opening_found, kept_begun, durable_none, none_failed}
+use Rattle.frs_writer.proofs.IsFound.{found_half, found_rising, found_above, found_none_removed}
 use Rattle.frs_writer.proofs.writer.Writer.new.Goals as goal
 
 pub returns-then-number-eq-NUMBER_LIMIT-clause-crash : goal.returns-then-number-eq-NUMBER_LIMIT-clause-crash

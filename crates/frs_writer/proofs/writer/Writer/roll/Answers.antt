@@ -14,9 +14,9 @@ use Rattle.frs_writer.specs.Places.{number_of_newest, length_of_newest, chunks_o
 use Rattle.frs_writer.specs.Writer.{WriterView}
 use Rattle.frs_writer.specs.Writing.{is_due, segments_after_roll, IsRolled, LeavesLog, LeavesShown}
 use Rattle.frs_writer.proofs.LeavesLog.{leaves_shown, unchanged_leaves, unchanged_shown}
-use Rattle.frs_writer.proofs.Rolled.{at_newest, number_at_newest, kept_cut, kept_rolled, rolled_images}
-use Rattle.frs_writer.proofs.Segments.{newest_length, newest_chunks, fresh}
-use Rattle.frs_writer.proofs.Written.{after_roll, broke, not_broken}
+use Rattle.frs_writer.proofs.IsRolled.{at_newest, number_at_newest, kept_cut, kept_rolled, rolled_images}
+use Rattle.frs_writer.proofs.Places.{newest_length, newest_chunks, fresh}
+use Rattle.frs_writer.proofs.WritesGroup.{after_roll, broke, not_broken}
 use Rattle.frs_writer.proofs.writer.Writer.roll.Goals as goal
 
 -- ---- where nothing was changed

@@ -9,9 +9,9 @@ use Rattle.frs_writer.specs.Places.{chunks_of_newest}
 use Rattle.frs_writer.specs.Writer.{WriterView}
 use Rattle.frs_writer.specs.Writing.{is_due, LeavesLog, LeavesShown, IsDurable}
 use Rattle.frs_writer.proofs.LeavesLog.{leaves_shown, durable_written, unchanged_leaves}
-use Rattle.frs_writer.proofs.Rolled.{at_newest}
-use Rattle.frs_writer.proofs.Segments.{taken_out, put_back, newest_chunks}
-use Rattle.frs_writer.proofs.Written.{IsPut, ok_kept, err_kept, put_images, put_wrote, short_here, broke, not_broken, not_due}
+use Rattle.frs_writer.proofs.IsRolled.{at_newest}
+use Rattle.frs_writer.proofs.Places.{taken_out, put_back, newest_chunks}
+use Rattle.frs_writer.proofs.WritesGroup.{IsPut, ok_kept, err_kept, put_images, put_wrote, short_here, broke, not_broken, not_due}
 use Rattle.frs_writer.proofs.writer.Writer.write.Goals as goal
 
 if_some : {X : Type 0} (P Q : X → Type 0) (o : Option X) → ((x : X) → P x → Q x) → IfSome o P → IfSome o Q

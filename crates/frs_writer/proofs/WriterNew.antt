@@ -20,16 +20,16 @@ use Rattle.frs_segment.specs.Segments.{FileList, WholeSegment, Spells}
 use Rattle.frs_segment.specs.Scanning.{places_of_segment}
 use Rattle.frs_segment.specs.Stores.{IsFound, numbers_of}
 use Rattle.frs_slots.specs.Views.{TakerView, next_taken}
-use Rattle.frs_writer.specs.Invariant.{IsCounted, IsAtWork, Holds, IsKept}
+use Rattle.frs_writer.specs.Invariant.{IsCounted, IsAtWork, ShowsDurable, IsKept}
 use Rattle.frs_writer.specs.Setup.{IsOpening}
-use Rattle.frs_writer.specs.LogImages.{ShowsLog, Rests, new_segment}
+use Rattle.frs_writer.specs.LogImages.{ShowsLog, EndsWithSegment, new_segment}
 use Rattle.frs_writer.specs.Writer.{WriterView, IsLog, WasEmpty, IsWellOpened}
 use Rattle.frs_writer.specs.Writing.{HoldsLog, LeavesFound}
-use Rattle.frs_writer.proofs.Found.{found_above, found_none_removed, found_half, found_next}
-use Rattle.frs_writer.proofs.Opened.{opening_shows, opening_rests, opening_spells}
-use Rattle.frs_writer.proofs.Rolled.{empty_gate}
-use Rattle.frs_writer.proofs.Showing.{base_lowest, shows_as, rests_as, rests_shows, rests_open}
-use Rattle.frs_writer.proofs.Whole.{shows_whole, shows_open, spelled_none}
+use Rattle.frs_writer.proofs.IsFound.{found_above, found_none_removed, found_half, found_next}
+use Rattle.frs_writer.proofs.IsOpening.{opening_shows, opening_rests, opening_spells}
+use Rattle.frs_writer.proofs.IsRolled.{empty_gate}
+use Rattle.frs_writer.proofs.ShowsLog.{base_lowest, shows_as, rests_as, rests_shows, rests_open}
+use Rattle.frs_writer.proofs.HoldsLog.{shows_whole, shows_open, spelled_none}
 
 pub none_failed : None ≡ Some Failed → ⊥
 none_failed is = cc
@@ -130,7 +130,7 @@ module _ {D : Type 0} (g : Ghosts D)
       begun_shows : ShowsLog (WasEmpty g old) (LeftNoFile g old) (entries c) base.first base.records
       begun_shows = shows_as empty_then none_when (opening_shows (g.reads old) segments base found is (g.may_leave old) well number first next (omega arith) within low high none_there c (opening c left) (LeftNoFile g old) none_before at_one)
 
-      begun_rests : get c number ≡ Some (empty_segment number first) → Rests (WasEmpty g old) (LeftNoFile g old) (entries c) base.first base.records (new_segment number first)
+      begun_rests : get c number ≡ Some (empty_segment number first) → EndsWithSegment (WasEmpty g old) (LeftNoFile g old) (entries c) base.first base.records (new_segment number first)
       begun_rests made = rests_as empty_then none_when (opening_rests (g.reads old) segments base found is (g.may_leave old) well number first next (omega arith) within low high none_there c (opening c left) (LeftNoFile g old) none_before at_one made)
 
   -- each image spells what was read at the start
@@ -213,7 +213,7 @@ module _ {D : Type 0} (g : Ghosts D)
       since : (c : Image) → g.may_leave new c → g.left_since new (g.moment old) c
       since c left = counts_now new (g.moment old) c later left
 
-      begun_holds : Holds g begun base
+      begun_holds : ShowsDurable g begun base
       begun_holds = record {
         next_is = ends_at ∙ first_is;
         each = λ c left. (
@@ -224,7 +224,7 @@ module _ {D : Type 0} (g : Ghosts D)
         );
         newest = λ fine. (
           new_segment number first,
-          (λ c left. subst (λ (rs : List Record). Rests (WasEmpty g old) (LeftNoFile g old) (entries c) base.first rs (new_segment number first)) (sym all_durable)
+          (λ c left. subst (λ (rs : List Record). EndsWithSegment (WasEmpty g old) (LeftNoFile g old) (entries c) base.first rs (new_segment number first)) (sym all_durable)
               (begun_rests told segments base is well c (since c left) (durable c left ∙ made told))),
           (segments, ap (λ (l : List Segment). l ++ next_segment ∷ []) is.segments_are ∙ sym (map-append places_of_segment segments (new_segment number first ∷ []))),
         );
@@ -239,8 +239,8 @@ module _ {D : Type 0} (g : Ghosts D)
     durable_none told well was c left =
         let (segments, base, is) = found_is told in
         let none : Log = record { first = 1; records = [] } in
-        let rests : Rests (WasEmpty g old) (LeftNoFile g old) (entries c) 1 [] (new_segment number first) =
-        subst (λ (l : Log). Rests (WasEmpty g old) (LeftNoFile g old) (entries c) l.first l.records (new_segment number first)) (sym (found_log told segments base is none was))
+        let rests : EndsWithSegment (WasEmpty g old) (LeftNoFile g old) (entries c) 1 [] (new_segment number first) =
+        subst (λ (l : Log). EndsWithSegment (WasEmpty g old) (LeftNoFile g old) (entries c) l.first l.records (new_segment number first)) (sym (found_log told segments base is none was))
         (begun_rests told segments base is well c (since told well segments base is c left) (durable c left ∙ made told)) in
         shows_open (entries c) 1 [] (rests_shows rests) was (rests_open rests)
 
@@ -252,7 +252,7 @@ module _ {D : Type 0} (g : Ghosts D)
       at_work = λ fine told. begun_at_work (told_before told);
       holds = λ told well log l placed.
           let (segments, base, is) = found_is (told_before told) in
-          subst (Holds g begun) (sym (log_is (told_before told) well segments base is log l)) (begun_holds (told_before told) well segments base is);
+          subst (ShowsDurable g begun) (sym (log_is (told_before told) well segments base is log l)) (begun_holds (told_before told) well segments base is);
     }
 
     -- all of it, as it stands in memory

@@ -13,15 +13,15 @@ use Rattle.frs_frame.specs.Spelling.{spelling}
 use Rattle.frs_segment.specs.Segments.{WholeSegment, Spells, segment_spelling, body, is_chunk}
 use Rattle.frs_segment.specs.Scanning.{places_of_segment}
 use Rattle.frs_slots.specs.Views.{next_taken}
-use Rattle.frs_writer.specs.Gates.{sealed}
+use Rattle.frs_writer.specs.Gates.{sealed_chunk}
 use Rattle.frs_writer.specs.Groups.{joined_records}
 use Rattle.frs_writer.specs.Invariant.{IsCounted, AreWritten, durable_of}
-use Rattle.frs_writer.specs.LogImages.{Rests}
+use Rattle.frs_writer.specs.LogImages.{EndsWithSegment}
 use Rattle.frs_writer.specs.Writer.{WriterView, IsLog}
-use Rattle.frs_writer.proofs.Images.{last_get}
-use Rattle.frs_writer.proofs.Logs.{part, joined_body, with_more, placed_less}
-use Rattle.frs_writer.proofs.Placing.{placed_allowed, allowed_back, allowed_front}
-use Rattle.frs_writer.proofs.Segments.{same_newest}
+use Rattle.frs_writer.proofs.NewestFile.{last_get}
+use Rattle.frs_writer.proofs.Parted.{part, joined_body, with_more, placed_less}
+use Rattle.frs_writer.proofs.IsPlaced.{placed_allowed, allowed_back, allowed_front}
+use Rattle.frs_writer.proofs.Places.{same_newest}
 
 -- ---- the log behind a group
 
@@ -117,8 +117,8 @@ module _ {D : Type 0} (g : Ghosts D) where
         let size : length (body grouped.rs) ≡ length (joined_records group) = ap length (sym (ap joined_records grouped.group_is ∙ joined_body grouped.rs)) in
         and_from _ _ (and_from _ _ (and_from _ _ (le-leb 1 (length grouped.rs) (omega (arith, group_long, some))) (le-leb (length grouped.rs) 256 (omega (arith, group_long, few)))) (le-leb (length (body grouped.rs)) (2 ^ 20) (omega (arith, size, fits)))) here
 
-    pub sealed_is : sealed (w.synced + 1) (length group) (joined_records group) ≡ sealed (w.synced + 1) (length grouped.rs) (body grouped.rs)
-    sealed_is = ap (λ (n : ℕ). sealed (w.synced + 1) n (joined_records group)) (sym group_long) ∙ ap (sealed (w.synced + 1) (length grouped.rs)) (ap joined_records grouped.group_is ∙ joined_body grouped.rs)
+    pub sealed_is : sealed_chunk (w.synced + 1) (length group) (joined_records group) ≡ sealed_chunk (w.synced + 1) (length grouped.rs) (body grouped.rs)
+    sealed_is = ap (λ (n : ℕ). sealed_chunk (w.synced + 1) n (joined_records group)) (sym group_long) ∙ ap (sealed_chunk (w.synced + 1) (length grouped.rs)) (ap joined_records grouped.group_is ∙ joined_body grouped.rs)
 
 -- ---- the newest file
 
@@ -128,13 +128,13 @@ newest_is w counted before last is = (same_newest counted.older (map places_of_s
 module _ {D : Type 0} (g : Ghosts D)
     (as_read : (disk : D) → IsTrue (g.tells disk) → g.may_leave disk (g.reads disk)) where
   -- the newest file as it is read
-  pub file_read : {alone fresh : Type 0} (disk : D) (told : IsTrue (g.tells disk)) (first : ℕ) (records : List Record) (last : WholeSegment) → ((c : Image) → g.may_leave disk c → Rests alone fresh (entries c) first records last)
+  pub file_read : {alone fresh : Type 0} (disk : D) (told : IsTrue (g.tells disk)) (first : ℕ) (records : List Record) (last : WholeSegment) → ((c : Image) → g.may_leave disk c → EndsWithSegment alone fresh (entries c) first records last)
       → get (g.reads disk) last.number ≡ Some (segment_spelling last ++ 0 ∷ [])
   file_read disk told first records last rest =
       let r = rest (g.reads disk) (as_read disk told) in
       last_get (g.reads disk) r.front last.number (segment_spelling last ++ 0 ∷ []) r.files
 
-  pub front_read : {alone fresh : Type 0} (disk : D) (told : IsTrue (g.tells disk)) (first : ℕ) (records : List Record) (last : WholeSegment) → ((c : Image) → g.may_leave disk c → Rests alone fresh (entries c) first records last)
+  pub front_read : {alone fresh : Type 0} (disk : D) (told : IsTrue (g.tells disk)) (first : ℕ) (records : List Record) (last : WholeSegment) → ((c : Image) → g.may_leave disk c → EndsWithSegment alone fresh (entries c) first records last)
       → take (length (segment_spelling last)) (bytes_at (g.reads disk) last.number) ≡ segment_spelling last
   front_read disk told first records last rest =
       ap (λ (o : Option (List ℕ)). take (length (segment_spelling last)) (unwrap_or o [])) (file_read disk told first records last rest)

@@ -7,32 +7,9 @@ use Rattle.std.specs.FinMap.{get, entries, entries_sorted, get-entries, nat_cmp-
 use Rattle.std.specs.FinMap.Entries.{find, below_all, is_sorted, same_entries, find-append}
 use Rattle.frs_disk.specs.Disk.{Image, SameElsewhere}
 use Rattle.frs_segment.specs.Segments.{File}
+use Rattle.frs_types.proofs.Truth.{and_first, and_second, and_both, less_by_cmp}
 
 -- ---- tests
-
-pub first : (a b : Bool) → T (a && b) → T a
-first true b is = tt
-first false b is = is
-
-pub second : (a b : Bool) → T (a && b) → T b
-second true b is = is
-second false b is = absurd is
-
-pub both : (a b : Bool) → T a → T b → T (a && b)
-both true b p q = q
-both false b p q = p
-
-truth : (b : Bool) → T b → IsTrue b
-truth true is = refl
-truth false is = absurd is
-
-pub below : (x y : ℕ) → T (is_lt (nat_cmp x y)) → x < y
-below x y is = at (nat_cmp x y) (ranks x y) is
-  where
-    at : (o : Ordering) → MatchOrdering o (x < y) (x ≡ y) (y < x) → T (is_lt o) → x < y
-    at Less p is = p
-    at Equal p is = absurd is
-    at Greater p is = absurd is
 
 below_is : (x y : ℕ) → x < y → T (is_lt (nat_cmp x y))
 below_is x y lt = subst (λ (o : Ordering). T (is_lt o)) (nat_cmp_is x y Less lt) tt
@@ -51,26 +28,26 @@ some_not x e = cc
 -- a list rises by its numbers alone
 below_alike : (front : List File) (n : ℕ) (b new : List ℕ) (x : ℕ) → T (below_all nat_cmp x (front ++ (n, b) ∷ [])) → T (below_all nat_cmp x (front ++ (n, new) ∷ []))
 below_alike [] n b new x is = is
-below_alike (f ∷ front) n b new x is = both _ _ (first _ _ is) (below_alike front n b new x (second _ _ is))
+below_alike (f ∷ front) n b new x is = and_both _ _ (and_first _ _ is) (below_alike front n b new x (and_second _ _ is))
 
 rising_alike : (front : List File) (n : ℕ) (b new : List ℕ) → T (is_sorted nat_cmp (front ++ (n, b) ∷ [])) → T (is_sorted nat_cmp (front ++ (n, new) ∷ []))
 rising_alike [] n b new is = is
-rising_alike (f ∷ front) n b new is = both _ _ (below_alike front n b new f.0 (first _ _ is)) (rising_alike front n b new (second _ _ is))
+rising_alike (f ∷ front) n b new is = and_both _ _ (below_alike front n b new f.0 (and_first _ _ is)) (rising_alike front n b new (and_second _ _ is))
 
 below_last : (front : List File) (n : ℕ) (b : List ℕ) (x : ℕ) → T (below_all nat_cmp x (front ++ (n, b) ∷ [])) → x < n
-below_last [] n b x is = below x n (first _ _ is)
-below_last (f ∷ front) n b x is = below_last front n b x (second _ _ is)
+below_last [] n b x is = less_by_cmp x n (and_first _ _ is)
+below_last (f ∷ front) n b x is = below_last front n b x (and_second _ _ is)
 
 -- no file before the last one has the last file's number, or a greater one
 none_from : (front : List File) (n : ℕ) (b : List ℕ) → T (is_sorted nat_cmp (front ++ (n, b) ∷ [])) → (q : ℕ) → n ≤ q → find nat_cmp q front ≡ None
 none_from [] n b is q le = refl
 none_from (f ∷ front) n b is q le =
-    let lt : f.0 < n = below_last front n b f.0 (first _ _ is) in
-    ap (λ (t : Bool). cond t (Some f.1) (find nat_cmp q front)) (tied_not q f.0 (omega arith)) ∙ none_from front n b (second _ _ is) q le
+    let lt : f.0 < n = below_last front n b f.0 (and_first _ _ is) in
+    ap (λ (t : Bool). cond t (Some f.1) (find nat_cmp q front)) (tied_not q f.0 (omega arith)) ∙ none_from front n b (and_second _ _ is) q le
 
 below_more : (x n : ℕ) (b : List ℕ) (files : List File) → T (below_all nat_cmp x files) → x < n → T (below_all nat_cmp x (files ++ (n, b) ∷ []))
-below_more x n b [] is lt = both _ _ (below_is x n lt) tt
-below_more x n b (f ∷ files) is lt = both _ _ (first _ _ is) (below_more x n b files (second _ _ is) lt)
+below_more x n b [] is lt = and_both _ _ (below_is x n lt) tt
+below_more x n b (f ∷ files) is lt = and_both _ _ (and_first _ _ is) (below_more x n b files (and_second _ _ is) lt)
 
 -- behind the other file, one that isn't found in the whole list isn't found
 none_there : (f : File) (files : List File) (q : ℕ) → q ≢ f.0 → find nat_cmp q (f ∷ files) ≡ None → find nat_cmp q files ≡ None
@@ -83,7 +60,7 @@ rising_more : (files : List File) (n : ℕ) (b : List ℕ) → T (is_sorted nat_
 rising_more [] n b is none = tt
 rising_more (f ∷ files) n b is none =
     let lt : f.0 < n = lower in
-    both _ _ (below_more f.0 n b files (first _ _ is) lt) (rising_more files n b (second _ _ is) (λ q le. none_there f files q (omega arith) (none q le)))
+    and_both _ _ (below_more f.0 n b files (and_first _ _ is) lt) (rising_more files n b (and_second _ _ is) (λ q le. none_there f files q (omega arith) (none q le)))
   where
     lower : f.0 < n
     lower = elim (cases_lt f.0 n) [
@@ -92,10 +69,6 @@ rising_more (f ∷ files) n b is none =
     ]
 
 -- ---- the files of a disk
-
--- the files stand by rising number
-pub rising : (d : Image) → IsTrue (is_sorted nat_cmp (entries d))
-rising d = truth _ (entries_sorted d)
 
 rises : (d : Image) (front : List File) (n : ℕ) (b : List ℕ) → entries d ≡ front ++ (n, b) ∷ [] → T (is_sorted nat_cmp (front ++ (n, b) ∷ []))
 rises d front n b is = subst (λ (files : List File). T (is_sorted nat_cmp files)) is (entries_sorted d)

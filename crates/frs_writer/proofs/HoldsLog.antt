@@ -11,10 +11,10 @@ use Rattle.frs_segment.specs.Order.{IsInOrder}
 use Rattle.frs_segment.proofs.IsInOrder.{none_half}
 use Rattle.frs_segment.specs.Segments.{FileList, WholeSegment, IsSegment, open_files, Spells, follow_from}
 use Rattle.frs_writer.specs.Invariant.{ShowsFrom, IsKept}
-use Rattle.frs_writer.specs.LogImages.{ShowsLog, Rests}
+use Rattle.frs_writer.specs.LogImages.{ShowsLog, EndsWithSegment}
 use Rattle.frs_writer.specs.Writer.{WriterView, IsLog, WasEmpty, IsWellOpened}
 use Rattle.frs_writer.specs.Writing.{HoldsAll, HoldsLog, HoldsFrom}
-use Rattle.frs_writer.proofs.Showing.{base_shows, rests_shows, rests_open}
+use Rattle.frs_writer.proofs.ShowsLog.{base_shows, rests_shows, rests_open}
 
 module _ {alone fresh : Type 0} (image : FileList) (first : ℕ) (records : List Record) (s : ShowsLog alone fresh image first records) (is : alone) where
   shows_all : HoldsAll image records
@@ -46,7 +46,7 @@ shows_first {fresh = fresh} n log image s is =
     let one : log.first ≡ 1 = (s.alone_is is).2 in
     subst (λ (k : ℕ). HoldsLog fresh 1 image (take k log.records)) (omega (arith, one)) (shows_whole image log.first (take (n + 1 - log.first) log.records) s is)
 
-rests_first : {alone fresh : Type 0} (n : ℕ) (log : Log) (image : FileList) (last : WholeSegment) → Rests alone fresh image log.first (take (n + 1 - log.first) log.records) last → alone → HoldsLog fresh 0 image (take n log.records)
+rests_first : {alone fresh : Type 0} (n : ℕ) (log : Log) (image : FileList) (last : WholeSegment) → EndsWithSegment alone fresh image log.first (take (n + 1 - log.first) log.records) last → alone → HoldsLog fresh 0 image (take n log.records)
 rests_first {fresh = fresh} n log image last r is =
     let one : log.first ≡ 1 = (r.alone_is is).2 in
     subst (λ (k : ℕ). HoldsLog fresh 0 image (take k log.records)) (omega (arith, one)) (shows_open image log.first (take (n + 1 - log.first) log.records) (rests_shows r) is (rests_open r))

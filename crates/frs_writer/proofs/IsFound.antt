@@ -12,8 +12,8 @@ use Rattle.frs_disk.specs.Disk.{Image}
 use Rattle.frs_segment.specs.declared.layout.Found.{Found}
 use Rattle.frs_segment.specs.Segments.{File, WholeSegment, is_open_file}
 use Rattle.frs_segment.specs.Stores.{IsFound, is_below}
-use Rattle.frs_writer.proofs.Showing.{base_lowest}
-use Rattle.frs_writer.proofs.Files.{sorted_kept, rising_numbers, all_there, at_most_last}
+use Rattle.frs_writer.proofs.ShowsLog.{base_lowest}
+use Rattle.frs_writer.proofs.NumbersOf.{sorted_kept, rising_numbers, all_there, at_most_last}
 
 -- half-made, and not below the segments
 abbrev pub is_half : List WholeSegment → File → Bool

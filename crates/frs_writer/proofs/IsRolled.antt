@@ -16,15 +16,15 @@ use Rattle.frs_segment.specs.Segments.{WholeSegment}
 use Rattle.frs_segment.specs.Scanning.{places_of_segment}
 use Rattle.frs_slots.specs.Views.{TakerView}
 use Rattle.frs_writer.specs.Gates.{IsAtGate}
-use Rattle.frs_writer.specs.Invariant.{IsCounted, ShowsFrom, durable_of, Holds, IsKept}
-use Rattle.frs_writer.specs.LogImages.{Rests, TakesNext, new_segment}
+use Rattle.frs_writer.specs.Invariant.{IsCounted, ShowsFrom, durable_of, ShowsDurable, IsKept}
+use Rattle.frs_writer.specs.LogImages.{EndsWithSegment, TakesNext, new_segment}
 use Rattle.frs_writer.specs.Writer.{WriterView, IsLog, WasEmpty, IsWellOpened}
 use Rattle.frs_writer.specs.Places.{length_of_newest, number_of_newest}
 use Rattle.frs_writer.specs.Writing.{is_due}
-use Rattle.frs_writer.proofs.Keeping.{newest_is}
-use Rattle.frs_writer.proofs.Showing.{rests_shows, rests_end, rests_takes, some_records}
-use Rattle.frs_writer.proofs.Segments.{newest_length, newest_number, newest_get}
-use Rattle.frs_writer.proofs.Steps.{one_next, one_making}
+use Rattle.frs_writer.proofs.Grouping.{newest_is}
+use Rattle.frs_writer.proofs.ShowsLog.{rests_shows, rests_end, rests_takes, some_records}
+use Rattle.frs_writer.proofs.Places.{newest_length, newest_number, newest_get}
+use Rattle.frs_writer.proofs.EndsWithSegment.{one_next, one_making}
 
 some_none : (f : Fault) → Some f ≡ None → ⊥
 some_none f is = cc
@@ -94,14 +94,14 @@ module _ {D : Type 0} (g : Ghosts D)
         stays_absent w.disk q e told (work.none_above q (omega (arith, at))) (work.none_removed q (omega (arith, at))) was
 
     module _ (told : IsTrue (g.tells w.disk)) (well : IsWellOpened g w.opened) (log : Log) (is_log : IsLog g w log) (placed : IsPlaced log) where
-      held : Holds g w log
+      held : ShowsDurable g w log
       held = kept.holds told well log is_log placed
 
-      ends_at : (last : WholeSegment) (c : Image) → Rests (WasEmpty g w.opened) (LeftNoFile g w.opened) (entries c) log.first (durable_of w log).records last → (before : List WholeSegment) → w.segments ≡ map places_of_segment (before ++ last ∷ []) → w.synced + 1 ≡ log.first + length (durable_of w log).records
+      ends_at : (last : WholeSegment) (c : Image) → EndsWithSegment (WasEmpty g w.opened) (LeftNoFile g w.opened) (entries c) log.first (durable_of w log).records last → (before : List WholeSegment) → w.segments ≡ map places_of_segment (before ++ last ∷ []) → w.synced + 1 ≡ log.first + length (durable_of w log).records
       ends_at last c rests before segments = sym kept.counted.ends ∙ ap (λ (s : Segment). s.«end») (newest_is w kept.counted before last segments) ∙ rests_end rests
 
       -- the newest segment has a record, so the next one can be made
-      takes : (last : WholeSegment) (e : Image) (rests : Rests (WasEmpty g w.opened) (LeftNoFile g w.opened) (entries e) log.first (durable_of w log).records last) (before : List WholeSegment) → w.segments ≡ map places_of_segment (before ++ last ∷ [])
+      takes : (last : WholeSegment) (e : Image) (rests : EndsWithSegment (WasEmpty g w.opened) (LeftNoFile g w.opened) (entries e) log.first (durable_of w log).records last) (before : List WholeSegment) → w.segments ≡ map places_of_segment (before ++ last ∷ [])
           → LeftNoFile g w.opened → TakesNext next_number (log.first + length (durable_of w log).records) (entries e) (rests_shows rests).segments
       takes last e rests before segments fresh =
           let newest : kept.counted.newest ≡ places_of_segment last = newest_is w kept.counted before last segments in
@@ -120,14 +120,14 @@ module _ {D : Type 0} (g : Ghosts D)
           )
 
       rolled_rests : IsSynced g d next_number → get (g.reads d) next_number ≡ Some (empty_segment next_number (w.synced + 1))
-          → (c : Image) → g.may_leave d c → Rests (WasEmpty g w.opened) (LeftNoFile g w.opened) (entries c) log.first (durable_of w log).records (new_segment next_number (w.synced + 1))
+          → (c : Image) → g.may_leave d c → EndsWithSegment (WasEmpty g w.opened) (LeftNoFile g w.opened) (entries c) log.first (durable_of w log).records (new_segment next_number (w.synced + 1))
       rolled_rests durable made c left =
           let (e, was, same) = frame.elsewhere c (counts_now d (g.moment w.disk) c frame.time.later left) in
           let (last, rest, (before, segments)) = held.newest fine in
           one_next log.first (durable_of w log).records next_number (w.synced + 1) e c (rests_shows (rest e was)) (takes last e (rest e was) before segments) same (none_there told e was)
           (ends_at last e (rest e was) before segments) (omega (arith, kept.counted.number)) high (omega arith) below (durable c left ∙ made)
 
-      rolled_holds : IsSynced g d next_number → get (g.reads d) next_number ≡ Some (empty_segment next_number (w.synced + 1)) → Holds g rolled_view log
+      rolled_holds : IsSynced g d next_number → get (g.reads d) next_number ≡ Some (empty_segment next_number (w.synced + 1)) → ShowsDurable g rolled_view log
       rolled_holds durable made =
           let (last, rest, (before, segments)) = held.newest fine in
           record {

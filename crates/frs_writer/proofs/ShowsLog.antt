@@ -12,8 +12,11 @@ use Rattle.frs_types.specs.Records.{Log, is_allowed, are_allowed_from, kind_allo
 use Rattle.frs_segment.specs.Front.{header, empty_segment, IsHalfMade}
 use Rattle.frs_segment.specs.Order.{IsInOrder}
 use Rattle.frs_segment.specs.Segments.{File, WholeSegment, IsSegment, FileList, records_of, end_of, body, chunk_bytes, chunks_bytes, segment_spelling, is_chunk, are_chunks, open_files, all_records, follow_from, first_alone_reaches, first_of, are_enough, SpellsBy, Spells}
-use Rattle.frs_writer.specs.LogImages.{ShowsLog, Rests, TakesNext, file_of, with_chunk, new_segment}
-use Rattle.frs_writer.proofs.Order.{spelled_open, half_shut, open_more, open_as_before, all_open_more, with_open, with_half, takes_more, takes_first, none_looked, none_order}
+use Rattle.frs_writer.specs.LogImages.{ShowsLog, EndsWithSegment, TakesNext, file_of, with_chunk, new_segment}
+use Rattle.frs_writer.proofs.TakesNext.{spelled_open, half_shut, open_more, open_as_before, all_open_more, with_open, with_half, takes_more, takes_first, none_looked, none_order}
+use Rattle.frs_types.proofs.Allowed.{lowest_at_most, lowest_behind}
+use Rattle.frs_segment.proofs.SpellsBy.{all_records-append, enough_reaches, all_allowed}
+use Rattle.frs_writer.proofs.Places.{bytes_more, chunk_end}
 
 -- ---- lists of segments
 
@@ -22,9 +25,6 @@ zip_more [] [] f s each is = (is, tt)
 zip_more [] (t ∷ segments) f s each is = absurd each
 zip_more (g ∷ looked) [] f s each is = absurd each
 zip_more (g ∷ looked) (t ∷ segments) f s each is = (each.0, zip_more looked segments f s each.1 is)
-
-all_records-append : (a b : List WholeSegment) → all_records (a ++ b) ≡ all_records a ++ all_records b
-all_records-append a b = flat_map-append records_of a b
 
 all_records_more : (segments : List WholeSegment) (s : WholeSegment) → all_records (segments ++ s ∷ []) ≡ all_records segments ++ records_of s
 all_records_more segments s = all_records-append segments (s ∷ []) ∙ ap (λ (rs : List Record). all_records segments ++ rs) (append-nil (records_of s))
@@ -64,14 +64,6 @@ chunks_more n (qs ∷ chunks) rs all one =
     let e : n + length (flat_map (λ (x : List Record). x) (qs ∷ chunks)) ≡ n + length qs + length (flat_map (λ (x : List Record). x) chunks) = omega (arith, length-append qs (flat_map (λ (x : List Record). x) chunks)) in
     and_from (is_chunk n qs) (are_chunks (n + length qs) (chunks ++ rs ∷ [])) parts.0 (chunks_more (n + length qs) chunks rs parts.1 (subst (λ (k : ℕ). IsTrue (is_chunk k rs)) e one))
 
-bytes_more : (n : ℕ) (chunks : List (List Record)) (rs : List Record) → chunks_bytes n (chunks ++ rs ∷ []) ≡ chunks_bytes n chunks ++ chunk_bytes (n + length (flat_map (λ (x : List Record). x) chunks)) rs
-bytes_more n [] rs = append-nil (chunk_bytes n rs) ∙ ap (λ (k : ℕ). chunk_bytes k rs) (omega arith)
-bytes_more n (qs ∷ chunks) rs =
-    let e : n + length qs + length (flat_map (λ (x : List Record). x) chunks) ≡ n + length (flat_map (λ (x : List Record). x) (qs ∷ chunks)) = omega (arith, length-append qs (flat_map (λ (x : List Record). x) chunks)) in
-    ap (λ (b : List ℕ). chunk_bytes n qs ++ b) (bytes_more (n + length qs) chunks rs)
-    ∙ sym (append_assoc (chunk_bytes n qs) (chunks_bytes (n + length qs) chunks) (chunk_bytes (n + length qs + length (flat_map (λ (x : List Record). x) chunks)) rs))
-    ∙ ap (λ (k : ℕ). (chunk_bytes n qs ++ chunks_bytes (n + length qs) chunks) ++ chunk_bytes k rs) e
-
 records_more : (s : WholeSegment) (rs : List Record) → records_of (with_chunk s rs) ≡ records_of s ++ rs
 records_more s rs = flat_map-append (λ (x : List Record). x) s.chunks (rs ∷ []) ∙ ap (λ (x : List Record). records_of s ++ x) (append-nil rs)
 
@@ -80,10 +72,6 @@ pub chunk_spelling : (s : WholeSegment) (rs : List Record) → segment_spelling 
 chunk_spelling s rs =
     ap (λ (b : List ℕ). (1 ∷ header s.number s.first) ++ b) (bytes_more s.first s.chunks rs)
     ∙ sym (append_assoc (1 ∷ header s.number s.first) (chunks_bytes s.first s.chunks) (chunk_bytes (end_of s) rs))
-
--- and its end
-pub chunk_end : (s : WholeSegment) (rs : List Record) → end_of (with_chunk s rs) ≡ end_of s + length rs
-chunk_end s rs = omega (arith, ap length (records_more s rs), length-append (records_of s) rs)
 
 -- a chunk has a record
 some_record : (n : ℕ) (rs : List Record) → IsTrue (is_chunk n rs) → 1 ≤ length rs
@@ -109,7 +97,7 @@ some_records s all long = at s.chunks refl all
 -- ---- the newest file, and what is written to it
 
 -- whatever stands behind the last file's closed gate
-pub rests_shut : {alone fresh : Type 0} {image : FileList} {first : ℕ} {records : List Record} {last : WholeSegment} → (r : Rests alone fresh image first records last) → (c : FileList) (gate : ℕ) (rest : List ℕ) → gate ≢ 1 → IsTrue (is_sorted nat_cmp c)
+pub rests_shut : {alone fresh : Type 0} {image : FileList} {first : ℕ} {records : List Record} {last : WholeSegment} → (r : EndsWithSegment alone fresh image first records last) → (c : FileList) (gate : ℕ) (rest : List ℕ) → gate ≢ 1 → IsTrue (is_sorted nat_cmp c)
     → c ≡ r.front ++ (last.number, segment_spelling last ++ gate ∷ rest) ∷ [] → ShowsLog alone fresh c first records
 rests_shut {first = first} {records = records} {last = last} r c gate rest other sorted is =
     let file : File = (last.number, segment_spelling last ++ gate ∷ rest) in
@@ -144,11 +132,11 @@ rests_shut {first = first} {records = records} {last = last} r c gate rest other
     }
 
 -- as it stands
-pub rests_shows : {alone fresh : Type 0} {image : FileList} {first : ℕ} {records : List Record} {last : WholeSegment} → Rests alone fresh image first records last → ShowsLog alone fresh image first records
+pub rests_shows : {alone fresh : Type 0} {image : FileList} {first : ℕ} {records : List Record} {last : WholeSegment} → EndsWithSegment alone fresh image first records last → ShowsLog alone fresh image first records
 rests_shows {image = image} r = rests_shut r image 0 [] (omega arith) r.rising r.files
 
 -- the last file ends at the next LSN
-pub rests_end : {alone fresh : Type 0} {image : FileList} {first : ℕ} {records : List Record} {last : WholeSegment} → Rests alone fresh image first records last → end_of last ≡ first + length records
+pub rests_end : {alone fresh : Type 0} {image : FileList} {first : ℕ} {records : List Record} {last : WholeSegment} → EndsWithSegment alone fresh image first records last → end_of last ≡ first + length records
 rests_end {records = records} {last = last} r =
     let start = first_of (r.segments ++ last ∷ []) in
     let here = and_parts (nat_eq last.first (start + length (all_records r.segments))) true (follow_behind start r.segments (last ∷ []) r.follow) in
@@ -162,12 +150,12 @@ rests_end {records = records} {last = last} r =
     )
 
 -- all files are open
-pub rests_open : {alone fresh : Type 0} {image : FileList} {first : ℕ} {records : List Record} {last : WholeSegment} → (r : Rests alone fresh image first records last) → fresh → open_files image ≡ image
+pub rests_open : {alone fresh : Type 0} {image : FileList} {first : ℕ} {records : List Record} {last : WholeSegment} → (r : EndsWithSegment alone fresh image first records last) → fresh → open_files image ≡ image
 rests_open {last = last} r fresh =
     ap open_files r.files ∙ all_open_more r.front (file_of last) (spelled_open last.number last 0 []) (r.fresh_is fresh).all_open ∙ sym r.files
 
 -- where the last file has a record one more can stand behind it
-pub rests_takes : {alone fresh : Type 0} {image : FileList} {first : ℕ} {records : List Record} {last : WholeSegment} → (r : Rests alone fresh image first records last) → 1 ≤ length (records_of last) → fresh
+pub rests_takes : {alone fresh : Type 0} {image : FileList} {first : ℕ} {records : List Record} {last : WholeSegment} → (r : EndsWithSegment alone fresh image first records last) → 1 ≤ length (records_of last) → fresh
     → TakesNext (last.number + 1) (first + length records) image (rests_shows r).segments
 unfolding rests_shut rests_shows
 rests_takes {first = first} {records = records} {last = last} r some fresh =
@@ -175,8 +163,8 @@ rests_takes {first = first} {records = records} {last = last} r some fresh =
     (takes_more (first + length records) r.front (file_of last) r.segments last (spelled_open last.number last 0 []) (r.fresh_is fresh) (omega (arith, some, rests_end r)))
 
 -- the last file has one more chunk
-pub rests_chunk : {alone fresh : Type 0} {image : FileList} {first : ℕ} {records : List Record} {last : WholeSegment} → (r : Rests alone fresh image first records last) → (rs : List Record) → IsTrue (is_chunk (end_of last) rs) → end_of last + length rs ≤ 2 ^ 62
-    → (c : FileList) → IsTrue (is_sorted nat_cmp c) → c ≡ r.front ++ file_of (with_chunk last rs) ∷ [] → Rests alone fresh c first (records ++ rs) (with_chunk last rs)
+pub rests_chunk : {alone fresh : Type 0} {image : FileList} {first : ℕ} {records : List Record} {last : WholeSegment} → (r : EndsWithSegment alone fresh image first records last) → (rs : List Record) → IsTrue (is_chunk (end_of last) rs) → end_of last + length rs ≤ 2 ^ 62
+    → (c : FileList) → IsTrue (is_sorted nat_cmp c) → c ≡ r.front ++ file_of (with_chunk last rs) ∷ [] → EndsWithSegment alone fresh c first (records ++ rs) (with_chunk last rs)
 rests_chunk {records = records} {last = last} r rs chunk within c sorted is = record {
   rising = sorted;
   front = r.front;
@@ -226,7 +214,7 @@ shows_as then when s = record {
   fresh_is = s.fresh_is;
 }
 
-pub rests_as : {alone other fresh : Type 0} {image : FileList} {first : ℕ} {records : List Record} {last : WholeSegment} → (alone → other) → (other → alone) → Rests alone fresh image first records last → Rests other fresh image first records last
+pub rests_as : {alone other fresh : Type 0} {image : FileList} {first : ℕ} {records : List Record} {last : WholeSegment} → (alone → other) → (other → alone) → EndsWithSegment alone fresh image first records last → EndsWithSegment other fresh image first records last
 rests_as then when r = record {
   rising = r.rising;
   front = r.front;
@@ -293,7 +281,7 @@ next (s ∷ segments) earlier records first t follow begins shown is = record {
 
 -- a segment without a chunk above the others
 pub shows_next : {alone fresh : Type 0} {image : FileList} {first : ℕ} {records : List Record} → (s : ShowsLog alone fresh image first records) → (n f : ℕ) → (fresh → TakesNext n (first + length records) image s.segments) → f ≡ first + length records → 1 ≤ n → n < 2 ^ 62 → 1 ≤ f → f < 2 ^ 62
-    → (c : FileList) → IsTrue (is_sorted nat_cmp c) → c ≡ image ++ (n, empty_segment n f) ∷ [] → Rests alone fresh c first records (new_segment n f)
+    → (c : FileList) → IsTrue (is_sorted nat_cmp c) → c ≡ image ++ (n, empty_segment n f) ∷ [] → EndsWithSegment alone fresh c first records (new_segment n f)
 shows_next {image = image} {first = first} {records = records} s n f takes first_is some below first_some first_below c sorted is =
     let t = new_segment n f in
     let at = next s.segments s.earlier records first t s.follow s.begins s.shown first_is in
@@ -327,62 +315,20 @@ shows_next {image = image} {first = first} {records = records} s n f takes first
 
 -- ---- what the records of a segment name
 
--- records behind others may stand there
-allowed_both : (n : ℕ) (rs qs : List Record) → IsTrue (are_allowed_from n rs) → IsTrue (are_allowed_from (n + length rs) qs) → IsTrue (are_allowed_from n (rs ++ qs))
-allowed_both n [] qs all more = subst (λ (k : ℕ). IsTrue (are_allowed_from k qs)) (omega arith) more
-allowed_both n (r ∷ rs) qs all more =
-    let parts = and_parts (is_allowed n r) (are_allowed_from (n + 1) rs) all in
-    let e : n + length (r ∷ rs) ≡ n + 1 + length rs = omega arith in
-    and_from (is_allowed n r) (are_allowed_from (n + 1) (rs ++ qs)) parts.0 (allowed_both (n + 1) rs qs parts.1 (subst (λ (k : ℕ). IsTrue (are_allowed_from k qs)) e more))
+abbrev named_lowest_or : Option Record → List Record → ℕ
+named_lowest_or o rs = unwrap_or (option_map (λ (r : Record). r.lowest) (last_or o rs)) 1
 
-chunks_allowed : (n : ℕ) (chunks : List (List Record)) → IsTrue (are_chunks n chunks) → IsTrue (are_allowed_from n (flat_map (λ (x : List Record). x) chunks))
-chunks_allowed n [] all = refl
-chunks_allowed n (rs ∷ chunks) all =
-    let parts = and_parts (is_chunk n rs) (are_chunks (n + length rs) chunks) all in
-    let here = and_parts (nat_le 1 (length rs) && nat_le (length rs) 256 && nat_le (length (body rs)) (2 ^ 20)) (are_allowed_from n rs) parts.0 in
-    allowed_both n rs (flat_map (λ (x : List Record). x) chunks) here.1 (chunks_allowed (n + length rs) chunks parts.1)
-
-all_allowed : (n : ℕ) (files : List File) (segments : List WholeSegment) → AllZip IsSegment files segments → IsTrue (follow_from n segments) → IsTrue (are_allowed_from n (all_records segments))
-all_allowed n [] [] each follow = refl
-all_allowed n [] (s ∷ segments) each follow = absurd each
-all_allowed n (f ∷ files) [] each follow = absurd each
-all_allowed n (f ∷ files) (s ∷ segments) each follow =
-    let parts = and_parts (nat_eq s.first n) (follow_from (end_of s) segments) follow in
-    let is : s.first ≡ n = eqb-true s.first n parts.0 in
-    let here : IsTrue (are_allowed_from n (records_of s)) = subst (λ (k : ℕ). IsTrue (are_allowed_from k (records_of s))) is (chunks_allowed s.first s.chunks each.0.chunks) in
-    let more : IsTrue (are_allowed_from (n + length (records_of s)) (all_records segments)) = subst (λ (k : ℕ). IsTrue (are_allowed_from k (all_records segments))) (ap (λ (k : ℕ). k + length (records_of s)) is) (all_allowed (end_of s) files segments each.1 parts.1) in
-    allowed_both n (records_of s) (all_records segments) here more
-
--- a record's lowest is at or below its LSN
-lowest_at : (n : ℕ) (r : Record) → IsTrue (is_allowed n r) → r.lowest ≤ n
-lowest_at n r is =
-    let kind = kind_allows n r.action r.tx r.named in
-    let a = and_parts (kind && nat_lt r.named n && nat_lt 0 r.lowest && nat_le r.lowest n) (has_words r.action) is in
-    leb-true r.lowest n (and_parts (kind && nat_lt r.named n && nat_lt 0 r.lowest) (nat_le r.lowest n) a.0).1
-
-abbrev lowest_or : Option Record → List Record → ℕ
-lowest_or o rs = unwrap_or (option_map (λ (r : Record). r.lowest) (last_or o rs)) 1
-
-newest_lowest : (n : ℕ) (q : Record) (rs : List Record) → q.lowest < n → IsTrue (are_allowed_from n rs) → lowest_or (Some q) rs < n + length rs
+newest_lowest : (n : ℕ) (q : Record) (rs : List Record) → q.lowest < n → IsTrue (are_allowed_from n rs) → named_lowest_or (Some q) rs < n + length rs
 newest_lowest n q [] lt all = omega (arith, lt)
 newest_lowest n q (r ∷ rs) lt all =
     let parts = and_parts (is_allowed n r) (are_allowed_from (n + 1) rs) all in
-    omega (arith, newest_lowest (n + 1) r rs (omega (arith, lowest_at n r parts.0)) parts.1)
+    omega (arith, newest_lowest (n + 1) r rs (omega (arith, lowest_at_most n r parts.0)) parts.1)
 
 named_below : (n : ℕ) (rs : List Record) → (rs ≡ [] → ⊥) → IsTrue (are_allowed_from n rs) → named_lowest rs < n + length rs
 named_below n [] some all = absurd (some refl)
 named_below n (r ∷ rs) some all =
     let parts = and_parts (is_allowed n r) (are_allowed_from (n + 1) rs) all in
-    omega (arith, newest_lowest (n + 1) r rs (omega (arith, lowest_at n r parts.0)) parts.1)
-
--- the newest record is that of the last records
-last_behind : (o : Option Record) (front : List Record) (r : Record) (rs : List Record) → last_or o (front ++ r ∷ rs) ≡ last_or None (r ∷ rs)
-last_behind o [] r rs = refl
-last_behind o (q ∷ front) r rs = last_behind (Some q) front r rs
-
-lowest_behind : (front rs : List Record) → (rs ≡ [] → ⊥) → named_lowest (front ++ rs) ≡ named_lowest rs
-lowest_behind front [] some = absurd (some refl)
-lowest_behind front (r ∷ rs) some = ap (λ (o : Option Record). unwrap_or (option_map (λ (q : Record). q.lowest) o) 1) (last_behind None front r rs)
+    omega (arith, newest_lowest (n + 1) r rs (omega (arith, lowest_at_most n r parts.0)) parts.1)
 
 -- ---- a log that is spelled is shown
 
@@ -398,12 +344,6 @@ record Told (older : FileList) (segments : List WholeSegment) (all : List Record
 reaches_from : (lowest : ℕ) (segments : List WholeSegment) → IsTrue (first_alone_reaches lowest segments) → first_of segments ≤ lowest
 reaches_from lowest [] is = absurd cc
 reaches_from lowest (s ∷ segments) is = leb-true s.first lowest (and_parts (nat_le s.first lowest) (list_all (λ (t : WholeSegment). nat_lt lowest t.first) segments) is).0
-
-reach_of : (older : FileList) (segments : List WholeSegment) (rs : List Record) → (rs ≡ [] → ⊥) → IsTrue (are_enough older segments rs) → IsTrue (first_alone_reaches (named_lowest rs) segments)
-reach_of [] segments [] some is = absurd (some refl)
-reach_of (file ∷ older) segments [] some is = absurd (some refl)
-reach_of [] segments (r ∷ rs) some is = is
-reach_of (file ∷ older) segments (r ∷ rs) some is = is
 
 enough_from : (older : FileList) (segments : List WholeSegment) (rs : List Record) → (rs ≡ [] → ⊥) → IsTrue (first_alone_reaches (named_lowest rs) segments) → IsTrue (are_enough older segments rs)
 enough_from [] segments [] some is = absurd (some refl)
@@ -444,7 +384,7 @@ told [] looked segments [] is each follow enough =
 told (file ∷ older) looked segments [] is each follow enough = absurd cc
 told older looked segments (r ∷ rs) is each follow enough =
     told_some older segments (r ∷ rs) (λ e. cc)
-    (reaches_from (named_lowest (r ∷ rs)) segments (reach_of older segments (r ∷ rs) (λ e. cc) enough))
+    (reaches_from (named_lowest (r ∷ rs)) segments (enough_reaches older segments (r ∷ rs) (λ e. cc) enough))
     (named_below (first_of segments) (r ∷ rs) (λ e. cc) (subst (λ (x : List Record). IsTrue (are_allowed_from (first_of segments) x)) is (all_allowed (first_of segments) looked segments each follow)))
 
 -- an image shows the log that it spells

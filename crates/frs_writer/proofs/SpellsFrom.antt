@@ -11,17 +11,17 @@ use Rattle.frs_disk.specs.Frames.{IsSynced}
 use Rattle.frs_frame.specs.Spelling.{spelling}
 use Rattle.frs_segment.specs.Segments.{Spells}
 use Rattle.frs_segment.specs.Stores.{log_up_to}
-use Rattle.frs_writer.specs.Invariant.{ShowsFrom, durable_of, Holds, IsKept}
+use Rattle.frs_writer.specs.Invariant.{ShowsFrom, durable_of, ShowsDurable, IsKept}
 use Rattle.frs_writer.specs.Places.{number_of_newest}
 use Rattle.frs_writer.specs.Writer.{WriterView, IsLog, IsWellOpened}
 use Rattle.frs_writer.specs.Writing.{SpellsFrom}
-use Rattle.frs_writer.proofs.Placing.{placed_front, first_below}
-use Rattle.frs_writer.proofs.Segments.{newest_number}
-use Rattle.frs_writer.proofs.Showing.{spells, base_lowest, rests_shows}
+use Rattle.frs_writer.proofs.IsPlaced.{placed_front, first_below}
+use Rattle.frs_writer.proofs.Places.{newest_number}
+use Rattle.frs_writer.proofs.ShowsLog.{spells, base_lowest, rests_shows}
 
 module _ {D : Type 0} (g : Ghosts D) (w : WriterView D) (kept : IsKept g w)
     (told : IsTrue (g.tells w.disk)) (well : IsWellOpened g w.opened) (log : Log) (is_log : IsLog g w log) (placed : IsPlaced log) where
-  held : Holds g w log
+  held : ShowsDurable g w log
   held = kept.holds told well log is_log placed
 
   -- a part that has all records from before the opening begins no later than where its newest one points

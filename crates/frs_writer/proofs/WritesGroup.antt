@@ -12,7 +12,7 @@ use Rattle.frs_disk.specs.Frames.{Within, LeftNoFile}
 use Rattle.frs_segment.specs.declared.layout.Segment.{Segment}
 use Rattle.frs_segment.specs.Segments.{Spells}
 use Rattle.frs_slots.specs.Views.{TakerView}
-use Rattle.frs_writer.specs.Gates.{IsShut, sealed}
+use Rattle.frs_writer.specs.Gates.{IsShut, sealed_chunk}
 use Rattle.frs_writer.specs.Groups.{joined_records, GathersGroup, PutsGroup}
 use Rattle.frs_writer.specs.Invariant.{ShowsFrom, IsKept}
 use Rattle.frs_segment.specs.Scanning.{places_of_segment}
@@ -20,10 +20,10 @@ use Rattle.frs_writer.specs.Places.{with_chunk_place, with_newest_grown, length_
 use Rattle.frs_writer.specs.LogImages.{new_segment}
 use Rattle.frs_writer.specs.Writer.{WriterView, IsLog, WasEmpty, IsWellOpened}
 use Rattle.frs_writer.specs.Writing.{is_due, segments_after_roll, WritesGroup}
-use Rattle.frs_writer.proofs.Gathering.{nothing_gathered}
-use Rattle.frs_writer.proofs.Grown.{kept_grown, kept_failed, images_shown, group_within_lsns}
-use Rattle.frs_writer.proofs.Rolled.{kept_same}
-use Rattle.frs_writer.proofs.Segments.{newest_grown, newest_length}
+use Rattle.frs_writer.proofs.GathersGroup.{nothing_gathered}
+use Rattle.frs_writer.proofs.PutsGroup.{kept_grown, kept_failed, images_shown, group_within_lsns}
+use Rattle.frs_writer.proofs.IsRolled.{kept_same}
+use Rattle.frs_writer.proofs.Places.{newest_grown, newest_length}
 
 -- the answer and what was put agree
 pub record IsPut {D : Type 0} (g : Ghosts D)
@@ -51,9 +51,9 @@ module _ {D : Type 0} (g : Ghosts D) (as_read : (disk : D) → IsTrue (g.tells d
   view segments synced ended = record { opened = w.opened; disk = d; taker = t; kept = still; segments = segments; noted = w.noted; synced = synced; ended = ended }
 
   images_of : (some : 1 ≤ length group) → IsTrue (g.tells w.disk) → Within g w.disk d (λ c. IsShut (take (newest.length - 1) (bytes_at (g.reads w.disk) newest.number)) (get c newest.number)
-      ⊎ (get c newest.number ≡ Some (take (newest.length - 1) (bytes_at (g.reads w.disk) newest.number) ++ 1 ∷ sealed (w.synced + 1) (length group) (joined_records group))))
+      ⊎ (get c newest.number ≡ Some (take (newest.length - 1) (bytes_at (g.reads w.disk) newest.number) ++ 1 ∷ sealed_chunk (w.synced + 1) (length group) (joined_records group))))
   images_of some told = subst (λ (n : ℕ). Within g w.disk d (λ c. IsShut (take (newest.length - 1) (bytes_at (g.reads w.disk) newest.number)) (get c newest.number)
-      ⊎ (get c newest.number ≡ Some (take (newest.length - 1) (bytes_at (g.reads w.disk) newest.number) ++ 1 ∷ sealed n (length group) (joined_records group))))) kept.counted.ends ((put.some some).images told)
+      ⊎ (get c newest.number ≡ Some (take (newest.length - 1) (bytes_at (g.reads w.disk) newest.number) ++ 1 ∷ sealed_chunk n (length group) (joined_records group))))) kept.counted.ends ((put.some some).images told)
 
   pub err_kept : (fault : Fault) → result ≡ Err fault → (segments : List Segment) → segments ≡ kept.counted.older ++ after ∷ [] → IsKept g (view segments w.synced (Some fault))
   err_kept fault is segments are = elim (cases_lt 0 (length group)) [
@@ -77,7 +77,7 @@ module _ {D : Type 0} (g : Ghosts D) (as_read : (disk : D) → IsTrue (g.tells d
         (subst (λ (s : List Segment). IsKept g (view s (w.synced + length group) None)) same
         (kept_grown g as_read counts_now w kept fine limit t still group gathered d p.frame (omega (arith, gathered.most, few)) some (images_of some)
         (short some) p.durable
-        (λ told. subst (λ (n : ℕ). get (g.reads d) newest.number ≡ Some (take (newest.length - 1) (bytes_at (g.reads w.disk) newest.number) ++ 1 ∷ sealed n (length group) (joined_records group))) kept.counted.ends (p.written told))))
+        (λ told. subst (λ (n : ℕ). get (g.reads d) newest.number ≡ Some (take (newest.length - 1) (bytes_at (g.reads w.disk) newest.number) ++ 1 ∷ sealed_chunk n (length group) (joined_records group))) kept.counted.ends (p.written told))))
     | inr ge ↦
         let none : length group ≡ 0 = omega (arith, ge) in
         let (ok, same_disk, same_segment) = put.none none in

@@ -6,9 +6,9 @@ use Rattle.std.proofs.lemmas.List.{append-nil}
 use Rattle.std.proofs.lemmas.Grind.{flat_map-append}
 use Rattle.frs_slots.specs.Views.{TakerView, next_taken}
 use Rattle.frs_segment.specs.Front.{chunk_head}
-use Rattle.frs_writer.specs.Gates.{sealed}
+use Rattle.frs_writer.specs.Gates.{sealed_chunk}
 use Rattle.frs_writer.specs.Chunk.{ChunkView}
-use Rattle.frs_writer.specs.Groups.{joined_records, IsTooLong, Gathered, GathersGroup, HasGroup, Added, Stopped}
+use Rattle.frs_writer.specs.Groups.{joined_records, IsTooLong, HasGathered, GathersGroup, HasGroup, AddsRecord, StopsGroup}
 
 joined-push : (group : List (List ℕ)) (b : List ℕ) → joined_records (group ++ b ∷ []) ≡ joined_records group ++ b
 joined-push group b = flat_map-append (λ (x : List ℕ). x) group (b ∷ []) ∙ ap (λ (l : List ℕ). joined_records group ++ l) (append-nil b)
@@ -22,7 +22,7 @@ pub in_chunk : (chunk : ChunkView) (group : List (List ℕ)) → HasGroup chunk 
 in_chunk chunk group has fits few = (omega (arith, long chunk group has), omega (arith, long chunk group has, fits), omega (arith, ap (λ (c : ChunkView). c.count) has, few))
 
 -- nothing, or the one that was kept
-pub first_of_chunk : (kept : Option (List ℕ)) (before : TakerView) → IfSome kept (λ b. length b ≤ 65883) → Gathered before before kept (option_to_list kept)
+pub first_of_chunk : (kept : Option (List ℕ)) (before : TakerView) → IfSome kept (λ b. length b ≤ 65883) → HasGathered before before kept (option_to_list kept)
 first_of_chunk None before fits = record { ring = (refl, refl); known = omega arith; sure = omega arith; within = λ h. h; taken = []; taken_are = sym (append-nil before.taken); group_is = refl; fits = omega arith }
 first_of_chunk (Some b) before fits = record {
   ring = (refl, refl);
@@ -35,8 +35,8 @@ first_of_chunk (Some b) before fits = record {
   fits = omega (arith, fits, ap length (append-nil b));
 }
 
-module _ (before t now : TakerView) (kept : Option (List ℕ)) (chunk after : ChunkView) (group : List (List ℕ)) (so_far : Gathered before t kept group) (has : HasGroup chunk group) where
-  pub one_more : (a : Added t now chunk after) → Gathered before now kept (group ++ a.bytes ∷ []) × HasGroup after (group ++ a.bytes ∷ [])
+module _ (before t now : TakerView) (kept : Option (List ℕ)) (chunk after : ChunkView) (group : List (List ℕ)) (so_far : HasGathered before t kept group) (has : HasGroup chunk group) where
+  pub one_more : (a : AddsRecord t now chunk after) → HasGathered before now kept (group ++ a.bytes ∷ []) × HasGroup after (group ++ a.bytes ∷ [])
   one_more a =
       let taken : now.taken ≡ before.taken ++ (so_far.taken ++ a.bytes ∷ []) = a.took.taken ∙ ap (λ (l : List (List ℕ)). l ++ a.bytes ∷ []) so_far.taken_are ∙ append_assoc before.taken so_far.taken (a.bytes ∷ []) in
       let one : length now.taken ≡ length t.taken + 1 = ap length a.took.taken ∙ length-append t.taken (a.bytes ∷ []) in (
@@ -55,7 +55,7 @@ module _ (before t now : TakerView) (kept : Option (List ℕ)) (chunk after : Ch
             ∙ ap (λ (b : List ℕ). record { count = length (group ++ a.bytes ∷ []); bytes = b }) (append_assoc (replicate 16 0) (joined_records group) a.bytes ∙ ap (λ (b : List ℕ). replicate 16 0 ++ b) (sym (joined-push group a.bytes))),
       )
 
-  pub no_more : (limit : ℕ) (still : Option (List ℕ)) → length group ≤ limit → Stopped t now still chunk after → GathersGroup limit before now kept still group × HasGroup after group
+  pub no_more : (limit : ℕ) (still : Option (List ℕ)) → length group ≤ limit → StopsGroup t now still chunk after → GathersGroup limit before now kept still group × HasGroup after group
   no_more limit still most s = ⊎_elim
       (λ n. let same : now ≡ t = n.1 in (
         record {
@@ -113,7 +113,7 @@ module _ (before t now : TakerView) (kept : Option (List ℕ)) (chunk after : Ch
 -- a chunk that begins with what was kept, if anything was
 pub record Begun (before : TakerView) (kept : Option (List ℕ)) (chunk : ChunkView) : Type 0 where
   pub group : List (List ℕ)
-  pub gathered : Gathered before before kept group
+  pub gathered : HasGathered before before kept group
   pub has : HasGroup chunk group
   pub counted : length group ≡ chunk.count
   pub one : chunk.count ≤ 1
@@ -124,7 +124,7 @@ with_kept before kept b chunk after is short empty added =
     let whole : after ≡ record { count = 1; bytes = replicate 16 0 ++ b } = added ∙ ap (λ (c : ChunkView). record { count = c.count + 1; bytes = c.bytes ++ b }) empty in
     record {
       group = b ∷ [];
-      gathered = subst (λ (o : Option (List ℕ)). Gathered before before o (b ∷ [])) (sym is) (first_of_chunk (Some b) before short);
+      gathered = subst (λ (o : Option (List ℕ)). HasGathered before before o (b ∷ [])) (sym is) (first_of_chunk (Some b) before short);
       has = whole ∙ ap (λ (l : List ℕ). record { count = 1; bytes = replicate 16 0 ++ l }) (sym (append-nil b));
       counted = ap (λ (c : ChunkView). c.count) (sym whole);
       one = omega (arith, ap (λ (c : ChunkView). c.count) whole);
@@ -134,7 +134,7 @@ pub without_kept : (before : TakerView) (kept : Option (List ℕ)) (chunk after 
     → chunk ≡ record { count = 0; bytes = replicate 16 0 } → after ≡ chunk → Begun before kept after
 without_kept before kept chunk after is empty same = record {
   group = [];
-  gathered = subst (λ (o : Option (List ℕ)). Gathered before before o []) (sym is) (first_of_chunk None before tt);
+  gathered = subst (λ (o : Option (List ℕ)). HasGathered before before o []) (sym is) (first_of_chunk None before tt);
   has = same ∙ empty;
   counted = ap (λ (c : ChunkView). c.count) (sym (same ∙ empty));
   one = omega (arith, ap (λ (c : ChunkView). c.count) (same ∙ empty));
@@ -152,9 +152,9 @@ nothing_gathered limit before now kept None [] g none = let (empty, same) = at k
 nothing_gathered limit before now kept (Some b) [] g none = absurd (omega (arith, g.too_long))
 nothing_gathered limit before now kept still (b ∷ group) g none = absurd (omega (arith, none))
 
--- the bytes of a chunk that was sealed
+-- the bytes of a chunk that was sealed_chunk
 pub sealed_bytes : (first : ℕ) (chunk : ChunkView) (group : List (List ℕ)) → HasGroup chunk group
-    → chunk_head (length chunk.bytes - 16) chunk.count first ++ drop 16 chunk.bytes ++ 0 ∷ [] ≡ sealed first (length group) (joined_records group)
+    → chunk_head (length chunk.bytes - 16) chunk.count first ++ drop 16 chunk.bytes ++ 0 ∷ [] ≡ sealed_chunk first (length group) (joined_records group)
 sealed_bytes first chunk group has =
     ap (λ (c : ChunkView). chunk_head (length c.bytes - 16) c.count first ++ drop 16 c.bytes ++ 0 ∷ []) has
     ∙ ap (λ (n : ℕ). chunk_head n (length group) first ++ joined_records group ++ 0 ∷ []) (omega (arith, length-append (replicate 16 0) (joined_records group)))

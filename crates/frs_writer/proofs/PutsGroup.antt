@@ -12,17 +12,17 @@ use Rattle.frs_disk.specs.Frames.{ChangesOneFile, IsSynced, Within, LeftNoFile}
 use Rattle.frs_segment.specs.declared.layout.Segment.{Segment}
 use Rattle.frs_slots.specs.Views.{TakerView, next_taken}
 use Rattle.frs_segment.specs.Front.{chunk_head}
-use Rattle.frs_writer.specs.Gates.{IsShut, IsAtGate, sealed}
+use Rattle.frs_writer.specs.Gates.{IsShut, IsAtGate, sealed_chunk}
 use Rattle.frs_writer.specs.Groups.{joined_records, GathersGroup}
 use Rattle.frs_writer.specs.Invariant.{IsCounted, IsAtWork, ShowsFrom, durable_of, IsKept}
-use Rattle.frs_writer.specs.LogImages.{ShowsLog, Rests, with_chunk}
+use Rattle.frs_writer.specs.LogImages.{ShowsLog, EndsWithSegment, with_chunk}
 use Rattle.frs_writer.specs.Writer.{WriterView, IsLog, WasEmpty, IsWellOpened}
 use Rattle.frs_writer.specs.Places.{with_chunk_place, with_newest_grown}
-use Rattle.frs_writer.proofs.Gates.{at_gate}
-use Rattle.frs_writer.proofs.Going.{Behind, behind, shows_grown, group_images, group_rests, segments_grown}
-use Rattle.frs_writer.proofs.Keeping.{grown_is, next_is}
-use Rattle.frs_writer.proofs.Segments.{newest_grown}
-use Rattle.frs_writer.proofs.Showing.{rests_shows}
+use Rattle.frs_writer.proofs.IsShut.{at_gate}
+use Rattle.frs_writer.proofs.Behind.{Behind, behind, shows_grown, group_images, group_rests, segments_grown}
+use Rattle.frs_writer.proofs.Grouping.{grown_is, next_is}
+use Rattle.frs_writer.proofs.Places.{newest_grown}
+use Rattle.frs_writer.proofs.ShowsLog.{rests_shows}
 
 -- ---- numbers
 
@@ -116,13 +116,13 @@ module _ {D : Type 0} (w : WriterView D) (counted : IsCounted w) (limit : ℕ) (
 
 module _ {D : Type 0} (g : Ghosts D) (old new : D) (s : Segment) (work : IsAtWork g old s) (least : 23 ≤ s.length) where
   pub work_grown : (first count : ℕ) (group : List (List ℕ)) → IsSynced g new s.number → SameElsewhere s.number (g.reads old) (g.reads new) → ((n : ℕ) → g.removing new n → g.removing old n)
-      → get (g.reads new) s.number ≡ Some (take (s.length - 1) (bytes_at (g.reads old) s.number) ++ 1 ∷ sealed first count (joined_records group))
+      → get (g.reads new) s.number ≡ Some (take (s.length - 1) (bytes_at (g.reads old) s.number) ++ 1 ∷ sealed_chunk first count (joined_records group))
       → IsAtWork g new (with_chunk_place count (length (joined_records group)) s)
   work_grown first count group durable others pending written =
       let here = at_gate (get (g.reads old) s.number) (s.length - 1) work.gate in
       let front : List ℕ = take (s.length - 1) (bytes_at (g.reads old) s.number) in
       let chunk : List ℕ = front ++ (1 ∷ (chunk_head (length (joined_records group)) count first ++ joined_records group)) in
-      let whole : front ++ 1 ∷ sealed first count (joined_records group) ≡ chunk ++ 0 ∷ [] =
+      let whole : front ++ 1 ∷ sealed_chunk first count (joined_records group) ≡ chunk ++ 0 ∷ [] =
       sym (append_assoc front (1 ∷ (chunk_head (length (joined_records group)) count first ++ joined_records group)) (0 ∷ [])) in
       let size : length chunk ≡ s.length + (17 + length (joined_records group)) - 1 =
       length-append front (1 ∷ (chunk_head (length (joined_records group)) count first ++ joined_records group))
@@ -163,7 +163,7 @@ module _ {D : Type 0} (g : Ghosts D) (as_read : (disk : D) → IsTrue (g.tells d
 
   module _ (frame : ChangesOneFile g newest.number w.disk d) (few : length group ≤ 256) (some : 1 ≤ length group)
       (images : IsTrue (g.tells w.disk) → Within g w.disk d (λ c. IsShut (take (newest.length - 1) (bytes_at (g.reads w.disk) newest.number)) (get c newest.number)
-      ⊎ (get c newest.number ≡ Some (take (newest.length - 1) (bytes_at (g.reads w.disk) newest.number) ++ 1 ∷ sealed (w.synced + 1) (length group) (joined_records group))))) where
+      ⊎ (get c newest.number ≡ Some (take (newest.length - 1) (bytes_at (g.reads w.disk) newest.number) ++ 1 ∷ sealed_chunk (w.synced + 1) (length group) (joined_records group))))) where
     told_before : IsTrue (g.tells d) → IsTrue (g.tells w.disk)
     told_before told = subst IsTrue frame.told told
 
@@ -191,17 +191,17 @@ module _ {D : Type 0} (g : Ghosts D) (as_read : (disk : D) → IsTrue (g.tells d
         some_none f is = cc
 
     module _ (short : newest.length < 2 ^ 20) (durable : IsSynced g d newest.number)
-        (written : IsTrue (g.tells w.disk) → get (g.reads d) newest.number ≡ Some (take (newest.length - 1) (bytes_at (g.reads w.disk) newest.number) ++ 1 ∷ sealed (w.synced + 1) (length group) (joined_records group))) where
+        (written : IsTrue (g.tells w.disk) → get (g.reads d) newest.number ≡ Some (take (newest.length - 1) (bytes_at (g.reads w.disk) newest.number) ++ 1 ∷ sealed_chunk (w.synced + 1) (length group) (joined_records group))) where
       segments_are : with_newest_grown (length group) (length (joined_records group)) w.segments ≡ kept.counted.older ++ with_chunk_place (length group) (length (joined_records group)) newest ∷ []
       segments_are = ap (with_newest_grown (length group) (length (joined_records group))) kept.counted.segments ∙ newest_grown (length group) (length (joined_records group)) kept.counted.older newest
 
       pub grown_rests : IsTrue (g.tells w.disk) → IsWellOpened g w.opened → (log' : Log) → IsLog g grown_view log' → (placed : IsPlaced log')
           → (b : Behind g as_read w grown_view kept.counted group log')
-          × ((c : Image) → g.may_leave d c → Rests (WasEmpty g w.opened) (LeftNoFile g w.opened) (entries c) log'.first (durable_of grown_view log').records (with_chunk b.last b.grouped.rs))
+          × ((c : Image) → g.may_leave d c → EndsWithSegment (WasEmpty g w.opened) (LeftNoFile g w.opened) (entries c) log'.first (durable_of grown_view log').records (with_chunk b.last b.grouped.rs))
       grown_rests told well log' is_log placed =
           let b = behind g as_read w grown_view kept group gathered.taken still log' fine told well refl gathered.taken_are gathered.group_is is_log placed in (
             b,
-            λ c left. subst (λ (l : _). Rests (WasEmpty g w.opened) (LeftNoFile g w.opened) (entries c) log'.first l (with_chunk b.last b.grouped.rs)) (sym (grown_is g w grown_view group log' b.grouped placed b.next))
+            λ c left. subst (λ (l : _). EndsWithSegment (WasEmpty g w.opened) (LeftNoFile g w.opened) (entries c) log'.first l (with_chunk b.last b.grouped.rs)) (sym (grown_is g w grown_view group log' b.grouped placed b.next))
                 (group_rests g as_read w grown_view kept.counted group log' placed b some few gathered.fits (omega (arith, log_within grown_view log' placed refl b, bound))
                 told d (λ x now. counts_now d (g.moment w.disk) x frame.time.later now) frame.elsewhere durable (written told) c left),
           )

@@ -12,17 +12,17 @@ use Rattle.frs_segment.specs.declared.layout.Segment.{Segment}
 use Rattle.frs_segment.specs.Segments.{WholeSegment, segment_spelling, body, is_chunk, end_of}
 use Rattle.frs_segment.specs.Scanning.{places_of_segment}
 use Rattle.frs_slots.specs.Views.{next_taken}
-use Rattle.frs_writer.specs.Gates.{IsShut, sealed}
+use Rattle.frs_writer.specs.Gates.{IsShut, sealed_chunk}
 use Rattle.frs_writer.specs.Groups.{joined_records}
 use Rattle.frs_writer.specs.Invariant.{IsCounted, ShowsFrom, durable_of, IsKept}
-use Rattle.frs_writer.specs.LogImages.{ShowsLog, Rests, with_chunk}
+use Rattle.frs_writer.specs.LogImages.{ShowsLog, EndsWithSegment, with_chunk}
 use Rattle.frs_writer.specs.Writer.{WriterView, IsLog, WasEmpty, IsWellOpened}
 use Rattle.frs_writer.specs.Places.{with_chunk_place, with_newest_grown}
-use Rattle.frs_writer.proofs.Keeping.{Grouping, grouping, placed_before, durable_is, behind_is, grown_is, group_within, group_chunk, group_long, sealed_is, newest_is, front_read, first_is}
-use Rattle.frs_writer.proofs.Logs.{joined_body}
-use Rattle.frs_writer.proofs.Segments.{described_grown, newest_grown}
-use Rattle.frs_writer.proofs.Showing.{rests_shows}
-use Rattle.frs_writer.proofs.Steps.{one_shut, one_whole}
+use Rattle.frs_writer.proofs.Grouping.{Grouping, grouping, placed_before, durable_is, behind_is, grown_is, group_within, group_chunk, group_long, sealed_is, newest_is, front_read, first_is}
+use Rattle.frs_writer.proofs.Parted.{joined_body}
+use Rattle.frs_writer.proofs.Places.{described_grown, newest_grown}
+use Rattle.frs_writer.proofs.ShowsLog.{rests_shows}
+use Rattle.frs_writer.proofs.EndsWithSegment.{one_shut, one_whole}
 
 module _ {D : Type 0} (g : Ghosts D) (as_read : (disk : D) → IsTrue (g.tells disk) → g.may_leave disk (g.reads disk)) where
   -- A group behind the records that are durable, and the last segment, which each image rests on.
@@ -30,7 +30,7 @@ module _ {D : Type 0} (g : Ghosts D) (as_read : (disk : D) → IsTrue (g.tells d
     pub grouped : Grouping g w w' group log'
     pub next : next_lsn grouped.log ≡ next_taken w.taker
     pub last : WholeSegment
-    pub rest : (c : Image) → g.may_leave w.disk c → Rests (WasEmpty g w.opened) (LeftNoFile g w.opened) (entries c) log'.first grouped.front last
+    pub rest : (c : Image) → g.may_leave w.disk c → EndsWithSegment (WasEmpty g w.opened) (LeftNoFile g w.opened) (entries c) log'.first grouped.front last
     pub newest : counted.newest ≡ places_of_segment last
     pub before : List WholeSegment
     pub segments : w.segments ≡ map places_of_segment (before ++ last ∷ [])
@@ -48,9 +48,9 @@ module _ {D : Type 0} (g : Ghosts D) (as_read : (disk : D) → IsTrue (g.tells d
         next = held.next_is;
         last = last;
         rest = λ c left.
-            let r : Rests (WasEmpty g w.opened) (LeftNoFile g w.opened) (entries c) grouped.log.first (durable_of w grouped.log).records last = rest c left in
-            subst (λ (n : ℕ). Rests (WasEmpty g w.opened) (LeftNoFile g w.opened) (entries c) n grouped.front last) (sym (first_is g w w' group log' grouped placed))
-            (subst (λ (l : List Record). Rests (WasEmpty g w.opened) (LeftNoFile g w.opened) (entries c) grouped.log.first l last) (durable_is g w w' group log' grouped placed held.next_is) r);
+            let r : EndsWithSegment (WasEmpty g w.opened) (LeftNoFile g w.opened) (entries c) grouped.log.first (durable_of w grouped.log).records last = rest c left in
+            subst (λ (n : ℕ). EndsWithSegment (WasEmpty g w.opened) (LeftNoFile g w.opened) (entries c) n grouped.front last) (sym (first_is g w w' group log' grouped placed))
+            (subst (λ (l : List Record). EndsWithSegment (WasEmpty g w.opened) (LeftNoFile g w.opened) (entries c) grouped.log.first l last) (durable_is g w w' group log' grouped placed held.next_is) r);
         newest = newest_is w kept.counted before last segments;
         before = before;
         segments = segments;
@@ -93,20 +93,20 @@ module _ {D : Type 0} (g : Ghosts D) (as_read : (disk : D) → IsTrue (g.tells d
     module _ (some : 1 ≤ length group) (few : length group ≤ 256) (fits : length (joined_records group) ≤ 2 ^ 20) (within : next_lsn log' ≤ 2 ^ 62) where
       -- the file with the whole chunk
       pub whole_rests : (c : Image) → AgreesElsewhere b.last.number (g.may_leave w.disk) c
-          → get c b.last.number ≡ Some (segment_spelling b.last ++ 1 ∷ sealed (w.synced + 1) (length group) (joined_records group))
-          → Rests (WasEmpty g w.opened) (LeftNoFile g w.opened) (entries c) log'.first (b.grouped.front ++ b.grouped.rs) (with_chunk b.last b.grouped.rs)
+          → get c b.last.number ≡ Some (segment_spelling b.last ++ 1 ∷ sealed_chunk (w.synced + 1) (length group) (joined_records group))
+          → EndsWithSegment (WasEmpty g w.opened) (LeftNoFile g w.opened) (entries c) log'.first (b.grouped.front ++ b.grouped.rs) (with_chunk b.last b.grouped.rs)
       whole_rests c agrees file =
           let (e, was, same) = agrees in
           let chunk = group_chunk g w w' group log' b.grouped placed b.next some few fits in
           one_whole log'.first b.grouped.front b.last e c (b.rest e was) same b.grouped.rs
           (subst (λ (n : ℕ). IsTrue (is_chunk n b.grouped.rs)) (sym ends_is) chunk)
           (omega (arith, ends_is, group_within g w w' group log' b.grouped placed b.next, group_long g w w' group log' b.grouped placed, within))
-          (file ∙ ap (λ (l : List ℕ). Some (segment_spelling b.last ++ 1 ∷ l)) (sealed_is g w w' group log' b.grouped placed ∙ ap (λ (n : ℕ). sealed n (length b.grouped.rs) (body b.grouped.rs)) (sym ends_is)))
+          (file ∙ ap (λ (l : List ℕ). Some (segment_spelling b.last ++ 1 ∷ l)) (sealed_is g w w' group log' b.grouped placed ∙ ap (λ (n : ℕ). sealed_chunk n (length b.grouped.rs) (body b.grouped.rs)) (sym ends_is)))
 
       -- at any moment of the write
       pub group_images : IsTrue (g.tells w.disk) → (d : D) → Within g w.disk d (AgreesElsewhere counted.newest.number (g.may_leave w.disk))
           → Within g w.disk d (λ c. IsShut (take (counted.newest.length - 1) (bytes_at (g.reads w.disk) counted.newest.number)) (get c counted.newest.number)
-          ⊎ (get c counted.newest.number ≡ Some (take (counted.newest.length - 1) (bytes_at (g.reads w.disk) counted.newest.number) ++ 1 ∷ sealed (w.synced + 1) (length group) (joined_records group))))
+          ⊎ (get c counted.newest.number ≡ Some (take (counted.newest.length - 1) (bytes_at (g.reads w.disk) counted.newest.number) ++ 1 ∷ sealed_chunk (w.synced + 1) (length group) (joined_records group))))
           → Within g w.disk d (λ c. ShowsFrom (WasEmpty g w.opened) (LeftNoFile g w.opened) w.synced log' (entries c))
       group_images told d elsewhere images c left =
           let agrees : AgreesElsewhere b.last.number (g.may_leave w.disk) c = subst (λ (n : ℕ). AgreesElsewhere n (g.may_leave w.disk) c) number_is (elsewhere c left) in
@@ -116,9 +116,9 @@ module _ {D : Type 0} (g : Ghosts D) (as_read : (disk : D) → IsTrue (g.tells d
           let here : IsShut (segment_spelling b.last) (get c b.last.number) = subst (λ (n : ℕ). IsShut (segment_spelling b.last) (get c n)) number_is (subst (λ (l : List ℕ). IsShut l (get c counted.newest.number)) (front_is told) shut) in
           shows_durable c (one_shut log'.first b.grouped.front b.last e c (b.rest e was) same here))
           (λ whole.
-          let here : get c b.last.number ≡ Some (segment_spelling b.last ++ 1 ∷ sealed (w.synced + 1) (length group) (joined_records group)) =
-          subst (λ (n : ℕ). get c n ≡ Some (segment_spelling b.last ++ 1 ∷ sealed (w.synced + 1) (length group) (joined_records group))) number_is
-          (whole ∙ ap (λ (l : List ℕ). Some (l ++ 1 ∷ sealed (w.synced + 1) (length group) (joined_records group))) (front_is told)) in
+          let here : get c b.last.number ≡ Some (segment_spelling b.last ++ 1 ∷ sealed_chunk (w.synced + 1) (length group) (joined_records group)) =
+          subst (λ (n : ℕ). get c n ≡ Some (segment_spelling b.last ++ 1 ∷ sealed_chunk (w.synced + 1) (length group) (joined_records group))) number_is
+          (whole ∙ ap (λ (l : List ℕ). Some (l ++ 1 ∷ sealed_chunk (w.synced + 1) (length group) (joined_records group))) (front_is told)) in
           let (n, least, most, shows) = shows_grown c (rests_shows (whole_rests c agrees here)) in
           (n, omega (arith, least), most, shows))
           (images c left)
@@ -126,14 +126,14 @@ module _ {D : Type 0} (g : Ghosts D) (as_read : (disk : D) → IsTrue (g.tells d
       -- and afterwards
       pub group_rests : IsTrue (g.tells w.disk) → (d : D) → ((c : Image) → g.may_leave d c → g.left_since d (g.moment w.disk) c)
           → Within g w.disk d (AgreesElsewhere counted.newest.number (g.may_leave w.disk)) → IsSynced g d counted.newest.number
-          → get (g.reads d) counted.newest.number ≡ Some (take (counted.newest.length - 1) (bytes_at (g.reads w.disk) counted.newest.number) ++ 1 ∷ sealed (w.synced + 1) (length group) (joined_records group))
-          → (c : Image) → g.may_leave d c → Rests (WasEmpty g w.opened) (LeftNoFile g w.opened) (entries c) log'.first (b.grouped.front ++ b.grouped.rs) (with_chunk b.last b.grouped.rs)
+          → get (g.reads d) counted.newest.number ≡ Some (take (counted.newest.length - 1) (bytes_at (g.reads w.disk) counted.newest.number) ++ 1 ∷ sealed_chunk (w.synced + 1) (length group) (joined_records group))
+          → (c : Image) → g.may_leave d c → EndsWithSegment (WasEmpty g w.opened) (LeftNoFile g w.opened) (entries c) log'.first (b.grouped.front ++ b.grouped.rs) (with_chunk b.last b.grouped.rs)
       group_rests told d counts elsewhere durable written c left =
           let agrees : AgreesElsewhere b.last.number (g.may_leave w.disk) c = subst (λ (n : ℕ). AgreesElsewhere n (g.may_leave w.disk) c) number_is (elsewhere c (counts c left)) in
-          let whole : get c counted.newest.number ≡ Some (take (counted.newest.length - 1) (bytes_at (g.reads w.disk) counted.newest.number) ++ 1 ∷ sealed (w.synced + 1) (length group) (joined_records group)) = durable c left ∙ written in
+          let whole : get c counted.newest.number ≡ Some (take (counted.newest.length - 1) (bytes_at (g.reads w.disk) counted.newest.number) ++ 1 ∷ sealed_chunk (w.synced + 1) (length group) (joined_records group)) = durable c left ∙ written in
           whole_rests c agrees
-          (subst (λ (n : ℕ). get c n ≡ Some (segment_spelling b.last ++ 1 ∷ sealed (w.synced + 1) (length group) (joined_records group))) number_is
-          (whole ∙ ap (λ (l : List ℕ). Some (l ++ 1 ∷ sealed (w.synced + 1) (length group) (joined_records group))) (front_is told)))
+          (subst (λ (n : ℕ). get c n ≡ Some (segment_spelling b.last ++ 1 ∷ sealed_chunk (w.synced + 1) (length group) (joined_records group))) number_is
+          (whole ∙ ap (λ (l : List ℕ). Some (l ++ 1 ∷ sealed_chunk (w.synced + 1) (length group) (joined_records group))) (front_is told)))
 
       pub segments_grown : with_newest_grown (length group) (length (joined_records group)) w.segments ≡ map places_of_segment (b.before ++ with_chunk b.last b.grouped.rs ∷ [])
       segments_grown =

@@ -11,9 +11,7 @@ use Rattle.frs_segment.specs.Segments.{WholeSegment, segment_spelling, chunk_byt
 use Rattle.frs_segment.specs.Scanning.{places_of_segment, chunk_place, places_from}
 use Rattle.frs_writer.specs.LogImages.{with_chunk, new_segment}
 use Rattle.frs_writer.specs.Places.{with_chunk_place, with_newest_grown, number_of_newest, length_of_newest, chunks_of_newest}
-
-chunk_long : (first : ℕ) (rs : List Record) → length (chunk_bytes first rs) ≡ 17 + length (body rs)
-chunk_long first rs = omega arith
+use Rattle.frs_segment.proofs.SegmentIn.{length-chunk_bytes}
 
 places-push : (offset first : ℕ) (chunks : List (List Record)) (rs : List Record) → places_from offset first (chunks ++ rs ∷ [])
     ≡ places_from offset first chunks ++ chunk_place (offset + length (chunks_bytes first chunks)) (first + length (flat_map (λ (c : List Record). c) chunks)) rs ∷ []
@@ -21,38 +19,40 @@ places-push offset first [] rs = ap (λ (o : ℕ). chunk_place o first rs ∷ []
 places-push offset first (c ∷ chunks) rs =
     let more : _ = places-push (offset + 17 + length (body c)) (first + length c) chunks rs in
     let o : offset + 17 + length (body c) + length (chunks_bytes (first + length c) chunks) ≡ offset + length (chunks_bytes first (c ∷ chunks)) =
-    omega (arith, length-append (chunk_bytes first c) (chunks_bytes (first + length c) chunks), chunk_long first c) in
+    omega (arith, length-append (chunk_bytes first c) (chunks_bytes (first + length c) chunks), length-chunk_bytes first c) in
     let f : first + length c + length (flat_map (λ (x : List Record). x) chunks) ≡ first + length (flat_map (λ (x : List Record). x) (c ∷ chunks)) =
     omega (arith, length-append c (flat_map (λ (x : List Record). x) chunks)) in
     ap (λ (l : List ChunkPlace). chunk_place offset first c ∷ l) (more
     ∙ ap (λ (n : ℕ). places_from (offset + 17 + length (body c)) (first + length c) chunks ++ chunk_place n (first + length c + length (flat_map (λ (x : List Record). x) chunks)) rs ∷ []) o
     ∙ ap (λ (n : ℕ). places_from (offset + 17 + length (body c)) (first + length c) chunks ++ chunk_place (offset + length (chunks_bytes first (c ∷ chunks))) n rs ∷ []) f)
 
-bytes-push : (first : ℕ) (chunks : List (List Record)) (rs : List Record) → chunks_bytes first (chunks ++ rs ∷ [])
+-- the bytes of chunks, and one more
+pub bytes_more : (first : ℕ) (chunks : List (List Record)) (rs : List Record) → chunks_bytes first (chunks ++ rs ∷ [])
     ≡ chunks_bytes first chunks ++ chunk_bytes (first + length (flat_map (λ (c : List Record). c) chunks)) rs
-bytes-push first [] rs = append-nil (chunk_bytes first rs) ∙ ap (λ (f : ℕ). chunk_bytes f rs) (omega arith)
-bytes-push first (c ∷ chunks) rs =
+bytes_more first [] rs = append-nil (chunk_bytes first rs) ∙ ap (λ (f : ℕ). chunk_bytes f rs) (omega arith)
+bytes_more first (c ∷ chunks) rs =
     let f : first + length c + length (flat_map (λ (x : List Record). x) chunks) ≡ first + length (flat_map (λ (x : List Record). x) (c ∷ chunks)) =
     omega (arith, length-append c (flat_map (λ (x : List Record). x) chunks)) in
-    ap (λ (l : List ℕ). chunk_bytes first c ++ l) (bytes-push (first + length c) chunks rs)
+    ap (λ (l : List ℕ). chunk_bytes first c ++ l) (bytes_more (first + length c) chunks rs)
     ∙ sym (append_assoc (chunk_bytes first c) (chunks_bytes (first + length c) chunks) (chunk_bytes (first + length c + length (flat_map (λ (x : List Record). x) chunks)) rs))
     ∙ ap (λ (n : ℕ). chunks_bytes first (c ∷ chunks) ++ chunk_bytes n rs) f
 
 spelling_long : (s : WholeSegment) (rs : List Record) → length (segment_spelling (with_chunk s rs)) ≡ length (segment_spelling s) + (17 + length (body rs))
 spelling_long s rs =
-    ap (λ (l : List ℕ). length ((1 ∷ header s.number s.first) ++ l)) (bytes-push s.first s.chunks rs)
+    ap (λ (l : List ℕ). length ((1 ∷ header s.number s.first) ++ l)) (bytes_more s.first s.chunks rs)
     ∙ ap length (sym (append_assoc (1 ∷ header s.number s.first) (chunks_bytes s.first s.chunks) (chunk_bytes (end_of s) rs)))
-    ∙ length-append (segment_spelling s) (chunk_bytes (end_of s) rs) ∙ omega (arith, chunk_long (end_of s) rs)
+    ∙ length-append (segment_spelling s) (chunk_bytes (end_of s) rs) ∙ omega (arith, length-chunk_bytes (end_of s) rs)
 
-end-push : (s : WholeSegment) (rs : List Record) → end_of (with_chunk s rs) ≡ end_of s + length rs
-end-push s rs =
+-- and the end of a segment with it
+pub chunk_end : (s : WholeSegment) (rs : List Record) → end_of (with_chunk s rs) ≡ end_of s + length rs
+chunk_end s rs =
     ap (λ (l : List Record). s.first + length l) (flat_map-append (λ (c : List Record). c) s.chunks (rs ∷ []) ∙ ap (λ (l : List Record). records_of s ++ l) (append-nil rs))
     ∙ omega (arith, length-append (records_of s) rs)
 
 pub described_grown : (s : WholeSegment) (rs : List Record) → places_of_segment (with_chunk s rs) ≡ with_chunk_place (length rs) (length (body rs)) (places_of_segment s)
 described_grown s rs =
     let o : 22 + length (chunks_bytes s.first s.chunks) ≡ length (segment_spelling s) + 1 - 1 = omega (arith, length-append (1 ∷ header s.number s.first) (chunks_bytes s.first s.chunks)) in
-    ap (λ (n : ℕ). record { number = s.number; first = s.first; «end» = n; length = length (segment_spelling (with_chunk s rs)) + 1; chunks = places_from 22 s.first (s.chunks ++ rs ∷ []) }) (end-push s rs)
+    ap (λ (n : ℕ). record { number = s.number; first = s.first; «end» = n; length = length (segment_spelling (with_chunk s rs)) + 1; chunks = places_from 22 s.first (s.chunks ++ rs ∷ []) }) (chunk_end s rs)
     ∙ ap (λ (n : ℕ). record { number = s.number; first = s.first; «end» = end_of s + length rs; length = n; chunks = places_from 22 s.first (s.chunks ++ rs ∷ []) }) (omega (arith, spelling_long s rs))
     ∙ ap (λ (l : List ChunkPlace). record { number = s.number; first = s.first; «end» = end_of s + length rs; length = length (segment_spelling s) + 1 + (17 + length (body rs)); chunks = l }) (places-push 22 s.first s.chunks rs)
     ∙ ap (λ (n : ℕ). record { number = s.number; first = s.first; «end» = end_of s + length rs; length = length (segment_spelling s) + 1 + (17 + length (body rs)); chunks = places_from 22 s.first s.chunks ++ chunk_place n (end_of s) rs ∷ [] }) o

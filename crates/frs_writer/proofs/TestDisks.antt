@@ -6,7 +6,7 @@ use Rattle.std.specs.FinMap.{entries, entries_sorted, from_entries, get, get-ent
 use Rattle.std.specs.FinMap.Entries.{is_sorted, same_entries}
 use Rattle.std.specs.Ordering.{nat_cmp}
 use Rattle.frs_disk.specs.Disk.{Image}
-use Rattle.frs_writer.proofs.Images.{last_get}
+use Rattle.frs_writer.proofs.NewestFile.{last_get}
 
 -- entries in rising order are those of the map that is made of them
 pub as_given : (files : List (ℕ × List ℕ)) → T (is_sorted nat_cmp files) → entries (from_entries {R = nat_cmp} files) ≡ files
@@ -15,7 +15,3 @@ as_given files rising = same_entries nat_cmp nat_cmp_total nat_cmp-IsAntisymmetr
 
 pub there : (image : Image) (n : ℕ) (bytes : List ℕ) → entries image ≡ (n, bytes) ∷ [] → IsSome (get image n)
 there image n bytes is = subst IsSome (sym (last_get image [] n bytes is)) refl
-
-pub both : {V E : Type 0} (P Q R : V → Type 0) (r : Result V E) → ((v : V) → P v → Q v → R v) → IfOk r P → IfOk r Q → IfOk r R
-both P Q R (Ok v) f p q = f v p q
-both P Q R (Err e) f p q = p

@@ -10,21 +10,22 @@ use Rattle.std.specs.Ordering.{nat_cmp, eq_by_cmp}
 use Rattle.std.specs.FinMap.Entries.{find, below_all, is_sorted}
 use Rattle.frs_segment.specs.Segments.{File}
 use Rattle.frs_segment.specs.Stores.{numbers_of}
-use Rattle.frs_writer.proofs.Images.{first, second, both, below, tied_not, here}
+use Rattle.frs_writer.proofs.NewestFile.{tied_not, here}
+use Rattle.frs_types.proofs.Truth.{and_first, and_second, and_both, less_by_cmp}
 
 -- ---- parts
 
 below_kept : (p : File → Bool) (x : ℕ) (files : List File) → T (below_all nat_cmp x files) → T (below_all nat_cmp x (filter p files))
 below_kept p x [] is = tt
 below_kept p x (f ∷ files) is =
-    let rest = below_kept p x files (second _ _ is) in
-    elim (p f) as (λ b. T (below_all nat_cmp x (cond b (f ∷ filter p files) (filter p files)))) [ true ↦ both _ _ (first _ _ is) rest | false ↦ rest ]
+    let rest = below_kept p x files (and_second _ _ is) in
+    elim (p f) as (λ b. T (below_all nat_cmp x (cond b (f ∷ filter p files) (filter p files)))) [ true ↦ and_both _ _ (and_first _ _ is) rest | false ↦ rest ]
 
 pub sorted_kept : (p : File → Bool) (files : List File) → T (is_sorted nat_cmp files) → T (is_sorted nat_cmp (filter p files))
 sorted_kept p [] is = tt
 sorted_kept p (f ∷ files) is =
-    let rest = sorted_kept p files (second _ _ is) in
-    elim (p f) as (λ b. T (is_sorted nat_cmp (cond b (f ∷ filter p files) (filter p files)))) [ true ↦ both _ _ (below_kept p f.0 files (first _ _ is)) rest | false ↦ rest ]
+    let rest = sorted_kept p files (and_second _ _ is) in
+    elim (p f) as (λ b. T (is_sorted nat_cmp (cond b (f ∷ filter p files) (filter p files)))) [ true ↦ and_both _ _ (below_kept p f.0 files (and_first _ _ is)) rest | false ↦ rest ]
 
 -- a part that each file passes is the whole
 pub filter_whole : (p : File → Bool) (files : List File) → All (λ f. p f ≡ true) files → filter p files ≡ files
@@ -49,11 +50,11 @@ filter_swap p q (f ∷ files) = by (filter_swap p q files) (p f) refl (q f) refl
 
 above_all : (x : ℕ) (files : List File) → T (below_all nat_cmp x files) → All (λ n. x < n) (numbers_of files)
 above_all x [] is = All-nil (λ (n : ℕ). x < n)
-above_all x (f ∷ files) is = All-cons (λ (n : ℕ). x < n) f.0 (numbers_of files) (below x f.0 (first _ _ is)) (above_all x files (second _ _ is))
+above_all x (f ∷ files) is = All-cons (λ (n : ℕ). x < n) f.0 (numbers_of files) (less_by_cmp x f.0 (and_first _ _ is)) (above_all x files (and_second _ _ is))
 
 rising_pairs : (files : List File) → T (is_sorted nat_cmp files) → AllPairs (λ (x y : ℕ). x < y) (numbers_of files)
 rising_pairs [] is = λ i j d lt within. absurd (omega arith)
-rising_pairs (f ∷ files) is = AllPairs-cons (λ (x y : ℕ). x < y) f.0 (numbers_of files) (above_all f.0 files (first _ _ is)) (rising_pairs files (second _ _ is))
+rising_pairs (f ∷ files) is = AllPairs-cons (λ (x y : ℕ). x < y) f.0 (numbers_of files) (above_all f.0 files (and_first _ _ is)) (rising_pairs files (and_second _ _ is))
 
 pub rising_numbers : (files : List File) → T (is_sorted nat_cmp files) → IsStrictlyIncreasing (numbers_of files)
 rising_numbers files is k lt = rising_pairs files is k (k + 1) 0 (omega arith) lt
@@ -61,11 +62,11 @@ rising_numbers files is k lt = rising_pairs files is k (k + 1) 0 (omega arith) l
 -- the files before one have lower numbers
 pub lower_before : (front : List File) (f : File) (files : List File) → T (is_sorted nat_cmp (front ++ f ∷ files)) → All (λ (g : File). g.0 < f.0) front
 lower_before [] f files is = All-nil (λ (g : File). g.0 < f.0)
-lower_before (g ∷ front) f files is = All-cons (λ (h : File). h.0 < f.0) g front (lower front (first _ _ is)) (lower_before front f files (second _ _ is))
+lower_before (g ∷ front) f files is = All-cons (λ (h : File). h.0 < f.0) g front (lower front (and_first _ _ is)) (lower_before front f files (and_second _ _ is))
   where
     lower : (more : List File) → T (below_all nat_cmp g.0 (more ++ f ∷ files)) → g.0 < f.0
-    lower [] is = below g.0 f.0 (first _ _ is)
-    lower (h ∷ more) is = lower more (second _ _ is)
+    lower [] is = less_by_cmp g.0 f.0 (and_first _ _ is)
+    lower (h ∷ more) is = lower more (and_second _ _ is)
 
 -- ---- what stands there
 
@@ -92,8 +93,8 @@ by_numbers P (f ∷ files) each = All-cons (λ (g : File). P g.0) f files (each 
 missing_below : (q : ℕ) (files : List File) → T (below_all nat_cmp q files) → find nat_cmp q files ≡ None
 missing_below q [] is = refl
 missing_below q (f ∷ files) is =
-    let lt : q < f.0 = below q f.0 (first _ _ is) in
-    ap (λ (t : Bool). cond t (Some f.1) (find nat_cmp q files)) (tied_not q f.0 (λ same. omega (arith, lt, same))) ∙ missing_below q files (second _ _ is)
+    let lt : q < f.0 = less_by_cmp q f.0 (and_first _ _ is) in
+    ap (λ (t : Bool). cond t (Some f.1) (find nat_cmp q files)) (tied_not q f.0 (λ same. omega (arith, lt, same))) ∙ missing_below q files (and_second _ _ is)
 
 -- what stands in a part stands in the whole, and passes
 pub record Kept (p : File → Bool) (files : List File) (q : ℕ) : Type 0 where
@@ -105,12 +106,12 @@ pub kept_there : (p : File → Bool) (files : List File) → T (is_sorted nat_cm
 kept_there p [] sorted q some = absurd cc
 kept_there p (f ∷ files) sorted q some = elim (cases_eq q f.0) [
   | inl is ↦ subst (λ (n : ℕ). Kept p (f ∷ files) n) (sym is) (head (p f) refl (subst (λ (n : ℕ). IsSome (find nat_cmp n (filter p (f ∷ files)))) is some))
-  | inr other ↦ behind other (λ is. kept_there p files (second _ _ sorted) q is) (p f) refl some
+  | inr other ↦ behind other (λ is. kept_there p files (and_second _ _ sorted) q is) (p f) refl some
 ]
   where
     head : (t : Bool) → p f ≡ t → IsSome (find nat_cmp f.0 (cond t (f ∷ filter p files) (filter p files))) → Kept p (f ∷ files) f.0
     head true passes is = record { bytes = f.1; is = here f files; passes = passes }
-    head false fails is = absurd (none_some (missing_below f.0 (filter p files) (below_kept p f.0 files (first _ _ sorted))) is)
+    head false fails is = absurd (none_some (missing_below f.0 (filter p files) (below_kept p f.0 files (and_first _ _ sorted))) is)
       where
         none_some : find nat_cmp f.0 (filter p files) ≡ None → IsSome (find nat_cmp f.0 (filter p files)) → ⊥
         none_some none is = cc
@@ -126,11 +127,11 @@ kept_there p (f ∷ files) sorted q some = elim (cases_eq q f.0) [
 
 last_above : (x : ℕ) (files : List File) → T (below_all nat_cmp x files) → T (is_sorted nat_cmp files) → x ≤ unwrap_or (last_or (Some x) (numbers_of files)) 0
 last_above x [] is sorted = omega arith
-last_above x (f ∷ files) is sorted = omega (arith, below x f.0 (first _ _ is), last_above f.0 files (first _ _ sorted) (second _ _ sorted))
+last_above x (f ∷ files) is sorted = omega (arith, less_by_cmp x f.0 (and_first _ _ is), last_above f.0 files (and_first _ _ sorted) (and_second _ _ sorted))
 
 pub at_most_last : (o : Option ℕ) (files : List File) → T (is_sorted nat_cmp files) → (q : ℕ) → IsSome (find nat_cmp q files) → q ≤ unwrap_or (last_or o (numbers_of files)) 0
 at_most_last o [] sorted q some = absurd cc
 at_most_last o (f ∷ files) sorted q some = elim (cases_eq q f.0) [
-  | inl is ↦ omega (arith, is, last_above f.0 files (first _ _ sorted) (second _ _ sorted))
-  | inr other ↦ at_most_last (Some f.0) files (second _ _ sorted) q (subst (λ (b : Bool). IsSome (cond b (Some f.1) (find nat_cmp q files))) (tied_not q f.0 other) some)
+  | inl is ↦ omega (arith, is, last_above f.0 files (and_first _ _ sorted) (and_second _ _ sorted))
+  | inr other ↦ at_most_last (Some f.0) files (and_second _ _ sorted) q (subst (λ (b : Bool). IsSome (cond b (Some f.1) (find nat_cmp q files))) (tied_not q f.0 other) some)
 ]

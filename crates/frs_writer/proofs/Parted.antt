@@ -6,7 +6,7 @@ use Rattle.frs_types.specs.Records.{Log, IsPlaced}
 use Rattle.frs_frame.specs.Spelling.{spelling}
 use Rattle.frs_segment.specs.Segments.{body}
 use Rattle.frs_writer.specs.Groups.{joined_records}
-use Rattle.frs_writer.proofs.Placing.{placed_front}
+use Rattle.frs_writer.proofs.IsPlaced.{placed_front}
 
 -- the parts of a list whose image falls into parts
 pub record Parted (xs ys : List (List ℕ)) (rs : List Record) : Type 0 where
