@@ -1,2 +1,2 @@
-pub mod Counting
-pub mod Naming
+pub mod Counts
+pub mod NameOfEnd

@@ -50,12 +50,12 @@ abbrev pub IsTakenUp : DrawerView → TakerView → Type 0
 IsTakenUp d t = next_drawn d ≡ next_taken t
 
 -- a drawer that knows more of what was taken, and is else as before
-pub record Looked (before now : DrawerView) : Type 0 where
+pub record KnowsMore (before now : DrawerView) : Type 0 where
   pub same : now ≡ record before { known_taken = now.known_taken }
   pub known_taken : before.known_taken ≤ now.known_taken
 
 -- a drawer with one more record
-pub record Drew (before : DrawerView) (bytes : List ℕ) (now : DrawerView) : Type 0 where
+pub record DrewRecord (before : DrawerView) (bytes : List ℕ) (now : DrawerView) : Type 0 where
   pub ring : now.ring ≡ before.ring
   pub first : now.first ≡ before.first
   pub capacity : now.capacity ≡ before.capacity
@@ -63,7 +63,7 @@ pub record Drew (before : DrawerView) (bytes : List ℕ) (now : DrawerView) : Ty
   pub known_taken : before.known_taken ≤ now.known_taken
 
 -- a taker that has taken one more record
-pub record Took (before : TakerView) (bytes : List ℕ) (now : TakerView) : Type 0 where
+pub record TookRecord (before : TakerView) (bytes : List ℕ) (now : TakerView) : Type 0 where
   pub ring : now.ring ≡ before.ring
   pub first : now.first ≡ before.first
   pub taken : now.taken ≡ before.taken ++ bytes ∷ []

@@ -24,8 +24,10 @@ pub trait DrawEnd {
         requires { AreOfOneRing (drawer self.old) taker.old }
         ensures one_ring { AreOfOneRing (drawer self.new) taker.new }
         ensures prefix { IsPrefix taker.new.taken (drawer self.new).drawn }
-        ensures known { (min taker.new.sure (length (drawer self.new).drawn) ≤ taker.new.known) × (taker.new.known ≤ length (drawer self.new).drawn) }
-        ensures taker { (taker.new ≡ record taker.old { known = taker.new.known }) × (taker.old.known ≤ taker.new.known) }
+        ensures known { (min taker.new.sure (length (drawer self.new).drawn) ≤ taker.new.known)
+            × (taker.new.known ≤ length (drawer self.new).drawn) }
+        ensures taker { (taker.new ≡ record taker.old { known = taker.new.known })
+            × (taker.old.known ≤ taker.new.known) }
         ensures drawer { drawer self.new ≡ drawer self.old }
         ensures others { is_else_as self.old self.new };
 
@@ -36,10 +38,18 @@ pub trait DrawEnd {
         requires one_ring { AreOfOneRing (drawer self.old) taker.old }
         requires taken_up { IsTakenUp (drawer self.old) taker.old }
         ensures one_ring { AreOfOneRing (drawer self.new) taker.new }
-        ensures drawer { OnOk result (drawer self.new ≡ record (drawer self.old) { ring = (drawer self.new).ring; known_taken = length (drawer self.old).drawn }) }
+        ensures drawer { OnOk result (drawer self.new
+            ≡ record (drawer self.old) {
+              ring = (drawer self.new).ring;
+              known_taken = length
+                  (drawer self.old).drawn;
+            }) }
         ensures room { OnOk result (HasRoom (drawer self.new)) }
-        ensures taker { OnOk result ((taker.new ≡ record taker.old { ring = taker.new.ring; known = taker.new.known }) × (taker.old.known ≤ taker.new.known)) }
-        ensures refused { OnErr result ((drawer self.new ≡ drawer self.old) × (taker.new ≡ taker.old)) }
+        ensures taker { OnOk result ((taker.new
+            ≡ record taker.old { ring = taker.new.ring; known = taker.new.known })
+            × (taker.old.known ≤ taker.new.known)) }
+        ensures refused { OnErr result ((drawer self.new ≡ drawer self.old)
+            × (taker.new ≡ taker.old)) }
         ensures others { is_else_as self.old self.new };
 }
 

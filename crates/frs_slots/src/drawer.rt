@@ -1,11 +1,13 @@
 // The end of the ring that draws LSNs.
-ghost use Rattle.std.specs.Prelude.{◌≡◌, ◌+◌, ◌<◌, ◌≤◌, ◌^◌, ◌↔◌, [], length, IsNone, IsOk, IsTrue, IfOk, IfErr, IfSome};
+ghost use Rattle.std.specs.Prelude.{◌≡◌, ◌+◌, ◌<◌, ◌≤◌, ◌↔◌, [], length, IsNone, IsOk, IsTrue, IfOk, IfErr, IfSome};
 ghost use Rattle.rtrb.specs.Ring.{sent, known_free, producer_capacity};
-ghost use Rattle.frs_slots.specs.Views.{next_drawn, outstanding, HasRoom, Looked, Drew};
+ghost use Rattle.frs_slots.specs.Views.{next_drawn, outstanding, HasRoom, KnowsMore, DrewRecord};
 ghost use Rattle.frs_slots.specs.Names.{pushes_on};
 
+use crate::CAPACITY_LIMIT;
 use crate::slot::{OfRing, Slip};
 use frs_frame::Framed;
+use frs_types::NUMBER_LIMIT;
 use rtrb::Producer;
 use std::fmt;
 use std::marker::Model;
@@ -60,9 +62,18 @@ impl std::error::Error for NoRoom {}
 impl Drawer {
     // The end of a ring on which nothing was pushed.
     pub(crate) fn new(producer: Producer<Framed>, capacity: u32, first: u64) -> Drawer
-        requires empty { (sent producer ≡ []) × (known_free producer ≡ capacity) × (producer_capacity producer ≡ capacity) }
-        requires in_range { (1 ≤ capacity) × (capacity ≤ 4096) × (1 ≤ first) × (first ≤ 2 ^ 62) }
-        ensures { result ≡ record { ring = pushes_on producer; first = first; capacity = capacity; drawn = []; known_taken = 0 } }
+        requires empty { (sent producer ≡ []) × (known_free producer ≡ capacity)
+            × (producer_capacity producer ≡ capacity) }
+        requires in_range { (1 ≤ capacity) × (capacity ≤ CAPACITY_LIMIT)
+            × (1 ≤ first) × (first ≤ NUMBER_LIMIT) }
+        ensures { result ≡ record {
+          ring = pushes_on producer;
+          first = first;
+          capacity = capacity;
+          drawn =
+              [];
+          known_taken = 0;
+        } }
     {
         Drawer {
             producer,
@@ -76,9 +87,10 @@ impl Drawer {
     /// The LSN of the next record to be drawn, from 1 to 2^62.
     pub fn next(&self) -> u64
         ensures next { result ≡ next_drawn self.now }
-        ensures in_range { (1 ≤ result) × (result ≤ 2 ^ 62) }
-        ensures counts { (self.now.known_taken ≤ length self.now.drawn) × (outstanding self.now ≤ self.now.capacity) }
-        ensures capacity { (1 ≤ self.now.capacity) × (self.now.capacity ≤ 4096) }
+        ensures in_range { (1 ≤ result) × (result ≤ NUMBER_LIMIT) }
+        ensures counts { (self.now.known_taken ≤ length self.now.drawn)
+            × (outstanding self.now ≤ self.now.capacity) }
+        ensures capacity { (1 ≤ self.now.capacity) × (self.now.capacity ≤ CAPACITY_LIMIT) }
     {
         self.next
     }
@@ -87,9 +99,16 @@ impl Drawer {
     /// answers the slip for it. `NoRoom` comes only where the drawer has looked and the ring is full by what it then
     /// knows; nothing is drawn. Takes no memory.
     pub fn draw(&mut self, framed: Framed) -> Result<Slip, NoRoom>
-        requires { next_drawn self.old < 2 ^ 62 }
-        ensures drawn { IfOk result (λ slip. Drew self.old framed self.new × (slip.lsn ≡ next_drawn self.old) × (slip.ring ≡ self.old.ring)) }
-        ensures full { IfErr result (λ refused. Looked self.old self.new × (refused ≡ record { framed = framed; drawn = length self.old.drawn; known_taken = self.new.known_taken }) × (outstanding self.new ≡ self.new.capacity)) }
+        requires { next_drawn self.old < NUMBER_LIMIT }
+        ensures drawn { IfOk result (λ slip. DrewRecord self.old framed self.new
+            × (slip.lsn ≡ next_drawn self.old) × (slip.ring ≡ self.old.ring)) }
+        ensures full { IfErr result (λ refused. KnowsMore self.old self.new
+            × (outstanding self.new ≡ self.new.capacity)
+            × (refused ≡ record {
+              framed = framed;
+              drawn = length self.old.drawn;
+              known_taken = self.new.known_taken;
+            })) }
         ensures room { HasRoom self.old → IsOk result }
     {
         if let Some((drawn, known_taken)) = self.room() {
@@ -109,9 +128,10 @@ impl Drawer {
     /// `draw` then answers a slip. Otherwise the number of records drawn and the number known as taken, as `NoRoom` has
     /// them. It may learn that more was taken, and changes nothing else. Takes no memory.
     pub fn room(&mut self) -> Option<(u64, u64)>
-        ensures looked { Looked self.old self.new }
+        ensures looked { KnowsMore self.old self.new }
         ensures room { IsNone result ↔ HasRoom self.new }
-        ensures full { IfSome result (λ numbers. (numbers.0 ≡ length self.new.drawn) × (numbers.1 ≡ self.new.known_taken) × (outstanding self.new ≡ self.new.capacity)) }
+        ensures full { IfSome result (λ numbers. (numbers.0 ≡ length self.new.drawn)
+            × (numbers.1 ≡ self.new.known_taken) × (outstanding self.new ≡ self.new.capacity)) }
     {
         if self.is_full() {
             self.look();
@@ -132,7 +152,7 @@ impl Drawer {
 
     // Looks how much was taken.
     fn look(&mut self)
-        ensures { Looked self.old self.new }
+        ensures { KnowsMore self.old self.new }
     {
         let free = self.producer.slots() as u64;
         self.known_taken = self.next - self.first + free - u64::from(self.capacity);

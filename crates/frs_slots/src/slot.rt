@@ -1,8 +1,9 @@
 // A slot of the ring, as a slip that is to be filled and as the receipt for it.
-ghost use Rattle.std.specs.Prelude.{◌≡◌, ◌<◌, ◌^◌};
+ghost use Rattle.std.specs.Prelude.{◌≡◌, ◌<◌};
 ghost use Rattle.frs_slots.specs.Names.{pushes_on};
 
 use frs_frame::Framed;
+use frs_types::NUMBER_LIMIT;
 use rtrb::Producer;
 use std::marker::Model;
 use std::snapshot::Snapshot;
@@ -26,7 +27,8 @@ pub struct Filled {
 }
 
 impl Model for Slip {
-    ghost use Rattle.std.specs.Prelude.{◌<◌, ◌^◌};
+    ghost use Rattle.std.specs.Prelude.{◌<◌};
+    ghost use Rattle.frs_types.specs.declared.limits.TheConstants.{NUMBER_LIMIT};
     ghost use Rattle.frs_slots.specs.Views.{SlotView};
     ghost use Rattle.frs_slots.specs.Names.{pushes_on};
 
@@ -34,11 +36,12 @@ impl Model for Slip {
 
     ghost view = { λ a. record { ring = pushes_on a.of.value; lsn = a.lsn } };
 
-    ghost invariant = { λ a. a.lsn < 2 ^ 62 };
+    ghost invariant = { λ a. a.lsn < NUMBER_LIMIT };
 }
 
 impl Model for Filled {
-    ghost use Rattle.std.specs.Prelude.{◌<◌, ◌^◌};
+    ghost use Rattle.std.specs.Prelude.{◌<◌};
+    ghost use Rattle.frs_types.specs.declared.limits.TheConstants.{NUMBER_LIMIT};
     ghost use Rattle.frs_slots.specs.Views.{SlotView};
     ghost use Rattle.frs_slots.specs.Names.{pushes_on};
 
@@ -46,13 +49,13 @@ impl Model for Filled {
 
     ghost view = { λ a. record { ring = pushes_on a.of.value; lsn = a.lsn } };
 
-    ghost invariant = { λ a. a.lsn < 2 ^ 62 };
+    ghost invariant = { λ a. a.lsn < NUMBER_LIMIT };
 }
 
 impl Slip {
     // The slip for an LSN, of the ring.
     pub(crate) fn new(lsn: u64, of: OfRing) -> Slip
-        requires { lsn < 2 ^ 62 }
+        requires { lsn < NUMBER_LIMIT }
         ensures { (result.ring ≡ pushes_on of.value) × (result.lsn ≡ lsn) }
     {
         Slip { lsn, of }
@@ -71,7 +74,7 @@ impl Filled {
     // The LSN of the record.
     pub(crate) fn lsn(&self) -> u64
         ensures lsn { result ≡ self.now.lsn }
-        ensures most { result < 2 ^ 62 }
+        ensures most { result < NUMBER_LIMIT }
     {
         self.lsn
     }

@@ -1,12 +1,12 @@
 // The end of the ring that takes records in the order of their LSNs.
-ghost use Rattle.std.specs.Prelude.{◌≡◌, ◌≢◌, ◌+◌, ◌<◌, ◌≤◌, ◌^◌, [], length, IsOk, IfOk, IfErr};
+ghost use Rattle.std.specs.Prelude.{◌≡◌, ◌≢◌, ◌+◌, ◌<◌, ◌≤◌, [], length, IsOk, IfOk, IfErr};
 ghost use Rattle.rtrb.specs.Ring.{received, known_items};
-ghost use Rattle.frs_slots.specs.Views.{next_taken, Took};
+ghost use Rattle.frs_slots.specs.Views.{next_taken, TookRecord};
 ghost use Rattle.frs_slots.specs.Names.{pops_from};
 
-use crate::END;
 use crate::slot::Filled;
 use frs_frame::Framed;
+use frs_types::NUMBER_LIMIT;
 use rtrb::Consumer;
 use std::fmt;
 use std::marker::Model;
@@ -55,8 +55,9 @@ impl Taker {
     // The end of a ring from which nothing was popped.
     pub(crate) fn new(consumer: Consumer<Framed>, first: u64) -> Taker
         requires empty { received consumer ≡ [] }
-        requires in_range { (1 ≤ first) × (first < 2 ^ 62) }
-        ensures { result ≡ record { ring = pops_from consumer; first = first; taken = []; sure = 0; known = 0 } }
+        requires in_range { (1 ≤ first) × (first < NUMBER_LIMIT) }
+        ensures { result
+            ≡ record { ring = pops_from consumer; first = first; taken = []; sure = 0; known = 0 } }
     {
         Taker {
             consumer,
@@ -70,9 +71,10 @@ impl Taker {
     /// The LSN of the next record to be taken, from 1 to 2^62.
     pub fn next(&self) -> u64
         ensures next { result ≡ next_taken self.now }
-        ensures in_range { (1 ≤ result) × (result ≤ 2 ^ 62) }
-        ensures first { (1 ≤ self.now.first) × (self.now.first < 2 ^ 62) }
-        ensures counts { (length self.now.taken ≤ self.now.sure) × (length self.now.taken ≤ self.now.known) }
+        ensures in_range { (1 ≤ result) × (result ≤ NUMBER_LIMIT) }
+        ensures first { (1 ≤ self.now.first) × (self.now.first < NUMBER_LIMIT) }
+        ensures counts { (length self.now.taken ≤ self.now.sure)
+            × (length self.now.taken ≤ self.now.known) }
     {
         self.next
     }
@@ -81,7 +83,8 @@ impl Taker {
     /// `first + sure`, and nothing else changes. Takes no memory.
     pub fn learn(&mut self, filled: Filled)
         requires { filled.ring ≡ self.old.ring }
-        ensures in_order { filled.lsn ≡ self.old.first + self.old.sure → self.new ≡ record self.old { sure = self.old.sure + 1 } }
+        ensures in_order { filled.lsn ≡ self.old.first + self.old.sure
+            → self.new ≡ record self.old { sure = self.old.sure + 1 } }
         ensures other { filled.lsn ≢ self.old.first + self.old.sure → self.new ≡ self.old }
     {
         if filled.lsn() == self.first + self.sure {
@@ -92,11 +95,13 @@ impl Taker {
     /// Takes the record with the next LSN, which is below 2^62. It does so wherever more records are known than were
     /// taken. `NotYet` comes only where all that are known were taken; nothing is changed then. Takes no memory.
     pub fn take(&mut self) -> Result<Framed, NotYet>
-        ensures taken { IfOk result (λ framed. Took self.old framed self.new × (next_taken self.old < 2 ^ 62)) }
-        ensures not_yet { IfErr result (λ refused. (self.new ≡ self.old) × (refused.known ≡ self.old.known) × (self.old.known ≡ length self.old.taken)) }
+        ensures taken { IfOk result (λ framed.
+            TookRecord self.old framed self.new × (next_taken self.old < NUMBER_LIMIT)) }
+        ensures not_yet { IfErr result (λ refused. (self.new ≡ self.old)
+            × (refused.known ≡ self.old.known) × (self.old.known ≡ length self.old.taken)) }
         ensures known { length self.old.taken < self.old.known → IsOk result }
     {
-        if self.next == END {
+        if self.next == NUMBER_LIMIT {
             return Err(NotYet { known: self.known });
         }
         match self.consumer.pop() {

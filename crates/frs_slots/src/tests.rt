@@ -17,13 +17,11 @@ fn everything_may_go_to_another_thread() {
 }
 
 #[test]
-fn a_full_ring_is_emptied_and_renewed(rt: HostRuntime) -> Result<(), Fail> {
+fn a_full_ring_refuses_a_record_until_one_is_taken(rt: HostRuntime) -> Result<(), Fail> {
     let alloc = rt.alloc();
     let begin = encode_payload(alloc, &Action::Begin)?;
     let commit = encode_payload(alloc, &Action::Commit)?;
     let mark = encode_payload(alloc, &Action::Mark)?;
-    let next = encode_payload(alloc, &Action::Begin)?;
-    let last = encode_payload(alloc, &Action::Abandon)?;
     let (mut drawer, mut taker) = ring(alloc, 2, 1)?;
     assert_eq!(rt; drawer.next(), 1);
     drawer.draw(begin).expect(&rt, "room").fill();
@@ -44,6 +42,18 @@ fn a_full_ring_is_emptied_and_renewed(rt: HostRuntime) -> Result<(), Fail> {
     assert_eq!(rt; taker.take()?.bytes()[0], 7);
     assert_eq!(rt; taker.take().err(), Some(NotYet { known: 3 }));
     assert_eq!(rt; taker.next(), drawer.next());
+    Ok(())
+}
+
+#[test]
+fn an_emptied_ring_is_renewed(rt: HostRuntime) -> Result<(), Fail> {
+    let alloc = rt.alloc();
+    let begin = encode_payload(alloc, &Action::Begin)?;
+    let next = encode_payload(alloc, &Action::Begin)?;
+    let last = encode_payload(alloc, &Action::Abandon)?;
+    let (mut drawer, mut taker) = ring(alloc, 2, 3)?;
+    drawer.draw(begin).expect(&rt, "room").fill();
+    assert_eq!(rt; taker.take()?.bytes()[0], 4);
     drawer.renew(alloc, &mut taker)?;
     assert_eq!(rt; drawer.next(), 4);
     drawer.draw(next).expect(&rt, "room").fill();

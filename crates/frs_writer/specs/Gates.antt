@@ -8,7 +8,8 @@ IsAtGate gate_at file = IsSomeAnd file (λ bytes. bytes ≡ take gate_at bytes +
 
 -- the file begins with these bytes and a closed gate
 abbrev pub IsShut : List ℕ → Option (List ℕ) → Type 0
-IsShut front file = IsSomeAnd file (λ bytes. (gate : ℕ) × (gate ≢ 1) × (take (length front + 1) bytes ≡ front ++ gate ∷ []))
+IsShut front file = IsSomeAnd file (λ bytes. (gate : ℕ) × (gate ≢ 1)
+    × (take (length front + 1) bytes ≡ front ++ gate ∷ []))
 
 -- what is behind the gate of a chunk: the head, the records, and the closed gate of the next one
 abbrev pub sealed_chunk : ℕ → ℕ → List ℕ → List ℕ

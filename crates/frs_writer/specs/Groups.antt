@@ -2,7 +2,7 @@
 use Rattle.std.specs.Prelude.{◌≡◌, ◌⊎◌, ℕ, ◌+◌, ◌-◌, ◌<◌, ◌≤◌, List, ◌∷◌, ◌++◌, length, take, flat_map, replicate, Option, Some, None, IfSome, Result, IfOk, OnOk, OnErr, IsTrue}
 use Rattle.std.specs.FinMap.{get}
 use Rattle.std.specs.Option.{option_to_list}
-use Rattle.frs_slots.specs.Views.{TakerView, next_taken, Took}
+use Rattle.frs_slots.specs.Views.{TakerView, next_taken, TookRecord}
 use Rattle.frs_disk.specs.declared.disk.Disk.{Ghosts}
 use Rattle.frs_disk.specs.declared.disk.Fault.{Fault}
 use Rattle.frs_disk.specs.Disk.{bytes_at}
@@ -35,7 +35,8 @@ pub record HasGathered (before now : TakerView) (kept : Option (List ℕ)) (grou
 
 -- The records of one chunk, at most so many: the one that was kept before, and then those that were taken. They end at
 -- the limit, or before a record that doesn't fit, which was taken and is kept, or where no more are known.
-pub record GathersGroup (limit : ℕ) (before now : TakerView) (kept still : Option (List ℕ)) (group : List (List ℕ)) : Type 0 where
+pub record GathersGroup (limit : ℕ) (before now : TakerView) (kept still : Option (List ℕ))
+    (group : List (List ℕ)) : Type 0 where
   pub ring : (now.ring ≡ before.ring) × (now.first ≡ before.first)
   pub known : before.known ≤ now.known
   pub sure : before.sure ≤ now.sure
@@ -55,7 +56,7 @@ HasGroup chunk group = chunk ≡ record { count = length group; bytes = replicat
 -- One more record was taken, and is in the chunk.
 pub record AddsRecord (before now : TakerView) (chunk after : ChunkView) : Type 0 where
   pub bytes : List ℕ
-  pub took : Took before bytes now
+  pub took : TookRecord before bytes now
   pub within : next_taken before < NUMBER_LIMIT
   pub fits : length chunk.bytes + length bytes ≤ BODY_LIMIT + CHUNK_HEAD
   pub added : after ≡ record { count = chunk.count + 1; bytes = chunk.bytes ++ bytes }
@@ -64,7 +65,7 @@ pub record AddsRecord (before now : TakerView) (chunk after : ChunkView) : Type 
 pub record StopsGroup (before now : TakerView) (still : Option (List ℕ)) (chunk after : ChunkView) : Type 0 where
   pub chunk_is : after ≡ chunk
   pub why : ((still ≡ None) × (now ≡ before) × (before.known ≡ length before.taken))
-      ⊎ ((bytes : List ℕ) × (still ≡ Some bytes) × Took before bytes now × (next_taken before < NUMBER_LIMIT)
+      ⊎ ((bytes : List ℕ) × (still ≡ Some bytes) × TookRecord before bytes now × (next_taken before < NUMBER_LIMIT)
       × (BODY_LIMIT + CHUNK_HEAD < length chunk.bytes + length bytes) × (length bytes ≤ 65883))
 
 -- ---- the disk

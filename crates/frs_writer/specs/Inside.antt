@@ -8,7 +8,17 @@ use Rattle.frs_writer.specs.Writer.{WriterView}
 use Rattle.frs_writer.specs.Invariant.{IsKept}
 
 abbrev pub view_of : {D : Type 0} → Inside D → WriterView D
-view_of a = record { opened = a.opened.value; disk = a.disk; taker = a.taker; kept = a.kept; segments = a.segments.items; noted = a.noted.items; synced = a.synced; ended = a.ended }
+view_of a = record {
+  opened = a.opened.value;
+  disk = a.disk;
+  taker = a.taker;
+  kept = a.kept;
+  segments =
+      a.segments.items;
+  noted = a.noted.items;
+  synced = a.synced;
+  ended = a.ended;
+}
 
 pub record IsWriter {D : Type 0} (g : Ghosts D) (a : Inside D) : Type 0 where
   pub kept_is : IsKept g (view_of a)

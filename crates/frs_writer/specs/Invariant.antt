@@ -21,7 +21,8 @@ use Rattle.frs_writer.specs.Writer.{WriterView, IsLog, WasEmpty, IsWellOpened}
 
 -- the records that were taken are written, but for the one that is kept
 abbrev pub AreWritten : {D : Type 0} → WriterView D → Type 0
-AreWritten w = (written : List (List ℕ)) × (w.taker.taken ≡ written ++ option_to_list w.kept) × (w.taker.first + length written ≡ w.synced + 1)
+AreWritten w = (written : List (List ℕ)) × (w.taker.taken ≡ written ++ option_to_list w.kept)
+    × (w.taker.first + length written ≡ w.synced + 1)
 
 -- The newest segment is the last one, and the next record to be written follows it. A record that was taken is written,
 -- or kept; a write that was cut short may have lost some.
@@ -53,7 +54,8 @@ pub record IsAtWork {D : Type 0} (g : Ghosts D) (disk : D) (newest : Segment) : 
 
 -- the image shows the log up to a record that isn't before this LSN
 abbrev pub ShowsFrom : Type 0 → Type 0 → ℕ → Log → FileList → Type 0
-ShowsFrom alone fresh synced log image = (n : ℕ) × (synced ≤ n) × (n < next_lsn log) × ShowsLog alone fresh image log.first (take (n + 1 - log.first) log.records)
+ShowsFrom alone fresh synced log image = (n : ℕ) × (synced ≤ n) × (n < next_lsn log)
+    × ShowsLog alone fresh image log.first (take (n + 1 - log.first) log.records)
 
 -- what of the log is durable
 abbrev pub durable_of : {D : Type 0} → WriterView D → Log → Log
@@ -64,9 +66,12 @@ durable_of w log = record log { records = take (w.synced + 1 - log.first) log.re
 -- was empty at the opening.
 pub record ShowsDurable {D : Type 0} (g : Ghosts D) (w : WriterView D) (log : Log) : Type 0 where
   pub next_is : next_lsn log ≡ next_taken w.taker
-  pub each : (c : Image) → g.may_leave w.disk c → ShowsFrom (WasEmpty g w.opened) (LeftNoFile g w.opened) w.synced log (entries c)
+  pub each : (c : Image) → g.may_leave w.disk c
+      → ShowsFrom (WasEmpty g w.opened) (LeftNoFile g w.opened) w.synced log (entries c)
   pub newest : w.ended ≡ None → (last : WholeSegment)
-      × ((c : Image) → g.may_leave w.disk c → EndsWithSegment (WasEmpty g w.opened) (LeftNoFile g w.opened) (entries c) log.first (durable_of w log).records last)
+      × ((c : Image) → g.may_leave w.disk c
+      → EndsWithSegment (WasEmpty g w.opened) (LeftNoFile g w.opened) (entries c) log.first
+      (durable_of w log).records last)
       × ((before : List WholeSegment) × (w.segments ≡ map places_of_segment (before ++ last ∷ [])))
 
 -- ---- all of it
@@ -75,4 +80,5 @@ pub record IsKept {D : Type 0} (g : Ghosts D) (w : WriterView D) : Type 0 where
   pub counted : IsCounted w
   pub told : g.tells w.disk ≡ g.tells w.opened
   pub at_work : w.ended ≡ None → IsTrue (g.tells w.disk) → IsAtWork g w.disk counted.newest
-  pub holds : IsTrue (g.tells w.disk) → IsWellOpened g w.opened → (log : Log) → IsLog g w log → IsPlaced log → ShowsDurable g w log
+  pub holds : IsTrue (g.tells w.disk) → IsWellOpened g w.opened → (log : Log) → IsLog g w log → IsPlaced log
+      → ShowsDurable g w log

@@ -42,7 +42,8 @@ file_of s = (s.number, segment_spelling s ++ 0 ∷ [])
 
 -- The same, and the last file is this segment: nothing else stands behind its closed gate or above it. Where the store was
 -- fresh this one is the next file behind those in front, which are all open.
-pub record EndsWithSegment (alone fresh : Type 0) (image : FileList) (first : ℕ) (records : List Record) (last : WholeSegment) : Type 0 where
+pub record EndsWithSegment (alone fresh : Type 0) (image : FileList) (first : ℕ) (records : List Record)
+    (last : WholeSegment) : Type 0 where
   pub rising : IsTrue (is_sorted nat_cmp image)
   pub front : FileList
   pub files : image ≡ front ++ file_of last ∷ []

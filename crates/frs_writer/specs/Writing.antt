@@ -36,7 +36,8 @@ is_due w = nat_le FILE_LIMIT (length_of_newest w.segments) && nat_lt (w.synced +
 
 -- the segments once the next one was made where it is due
 abbrev pub segments_after_roll : {D : Type 0} → WriterView D → List Segment
-segments_after_roll w = if is_due w then w.segments ++ places_of_segment (new_segment (number_of_newest w.segments + 1) (w.synced + 1)) ∷ [] else w.segments
+segments_after_roll w = if is_due w then w.segments
+    ++ places_of_segment (new_segment (number_of_newest w.segments + 1) (w.synced + 1)) ∷ [] else w.segments
 
 -- The next segment was made where it is due, and now none is.
 pub record IsRolled {D : Type 0} (old new : WriterView D) : Type 0 where
@@ -61,7 +62,9 @@ pub record WritesGroup {D : Type 0} (limit count : ℕ) (old new : WriterView D)
   pub counted : count ≡ length group
   pub none : count ≡ 0 → (old.kept ≡ None) × (new.kept ≡ None)
   pub synced : new.synced ≡ old.synced + count
-  pub segments : new.segments ≡ (if nat_lt 0 count then with_newest_grown count (length (joined_records group)) (segments_after_roll old) else segments_after_roll old)
+  pub segments : new.segments
+      ≡ (if nat_lt 0 count then with_newest_grown count (length (joined_records group))
+      (segments_after_roll old) else segments_after_roll old)
 
 -- ---- why a call was refused
 
@@ -70,18 +73,22 @@ pub record WritesGroup {D : Type 0} (limit count : ℕ) (old new : WriterView D)
 -- unless it has cut a write short.
 abbrev pub HasWriteCause : {D X : Type 0} → Ghosts D → WriterView D → WriterView D → Result X WriteFault → Type 0
 HasWriteCause g old new (Ok count) = (g.faults new.disk ≡ g.faults old.disk) × (old.ended ≡ None) × (new.ended ≡ None)
-HasWriteCause g old new (Err Disk) = Rose (g.faults old.disk) (g.faults new.disk) × (old.ended ≡ None) × (new.ended ≡ Some fault.Failed)
+HasWriteCause g old new (Err Disk) = Rose (g.faults old.disk) (g.faults new.disk) × (old.ended ≡ None)
+    × (new.ended ≡ Some fault.Failed)
 HasWriteCause g old new (Err (Broken at_opening now)) =
-    (at_opening ≡ g.faults old.opened) × (now ≡ g.faults old.disk) × Rose at_opening now × (old.ended ≡ Some fault.Failed) × (new ≡ old)
+    (at_opening ≡ g.faults old.opened) × (now ≡ g.faults old.disk) × Rose at_opening now
+    × (old.ended ≡ Some fault.Failed) × (new ≡ old)
 HasWriteCause g old new (Err (NumberLimit number)) =
-    (number ≡ NUMBER_LIMIT) × (number_of_newest old.segments + 1 ≡ number) × IsTrue (is_due old) × (old.ended ≡ None) × (new ≡ old)
+    (number ≡ NUMBER_LIMIT) × (number_of_newest old.segments + 1 ≡ number) × IsTrue (is_due old) × (old.ended ≡ None)
+    × (new ≡ old)
 HasWriteCause g old new (Err Memory) =
     (g.faults new.disk ≡ g.faults old.disk) × ((new ≡ old) ⊎ ((old.ended ≡ None) × (new.ended ≡ Some fault.Memory)))
 
 -- of a write to the newest segment: `Memory` before anything was changed only where no room was given
 abbrev pub HasPutCause : {D : Type 0} → Ghosts D → Type 0 → WriterView D → WriterView D → Result ℕ WriteFault → Type 0
 HasPutCause g not_given old new (Ok count) = (g.faults new.disk ≡ g.faults old.disk) × (new.ended ≡ None)
-HasPutCause g not_given old new (Err Disk) = Rose (g.faults old.disk) (g.faults new.disk) × (new.ended ≡ Some fault.Failed)
+HasPutCause g not_given old new (Err Disk) = Rose (g.faults old.disk) (g.faults new.disk)
+    × (new.ended ≡ Some fault.Failed)
 HasPutCause g not_given old new (Err (Broken at_opening now)) = ⊥
 HasPutCause g not_given old new (Err (NumberLimit number)) = ⊥
 HasPutCause g not_given old new (Err Memory) =
@@ -131,7 +138,8 @@ HoldsLog fresh most image records = HoldsAll image records × (fresh → HoldsOn
 -- The log, up to a record that isn't before the LSN synced; the first record has the LSN 1. Where
 -- the store was fresh its files are in order, and at most one is half-made.
 abbrev pub HoldsFrom : Type 0 → ℕ → Log → Image → Type 0
-HoldsFrom fresh synced log c = (n : ℕ) × (synced ≤ n) × (n < next_lsn log) × HoldsLog fresh 1 (entries c) (take n log.records)
+HoldsFrom fresh synced log c = (n : ℕ) × (synced ≤ n) × (n < next_lsn log)
+    × HoldsLog fresh 1 (entries c) (take n log.records)
 
 -- Where the writer was well opened and its log is placed, each image has this.
 abbrev pub OfPlacedLog : {D : Type 0} → Ghosts D → WriterView D → (Log → Type 0) → Type 0
@@ -141,14 +149,16 @@ OfPlacedLog g w P = IsWellOpened g w.opened → (log : Log) → IsLog g w log �
 -- at the start. Where the log was empty at the opening, all open files are its segments, from LSN 1 on; where there was no
 -- file then, its files are in order, and at most the newest is half-made.
 pub record LeavesLog {D : Type 0} (g : Ghosts D) (old new : WriterView D) : Type 0 where
-  pub images : IsTrue (g.tells old.disk) → OfPlacedLog g new (λ log. Within g old.disk new.disk (SpellsFrom old.synced log))
+  pub images : IsTrue (g.tells old.disk)
+      → OfPlacedLog g new (λ log. Within g old.disk new.disk (SpellsFrom old.synced log))
   pub whole : IsTrue (g.tells old.disk) → OfPlacedLog g new (λ log. WasEmpty g new.opened
       → Within g old.disk new.disk (HoldsFrom (LeftNoFile g new.opened) old.synced log))
 
 -- the same, as it is shown
 abbrev pub LeavesShown : {D : Type 0} → Ghosts D → WriterView D → WriterView D → Type 0
 LeavesShown g old new = IsTrue (g.tells old.disk) → OfPlacedLog g new (λ log.
-    Within g old.disk new.disk (λ c. ShowsFrom (WasEmpty g new.opened) (LeftNoFile g new.opened) old.synced log (entries c)))
+    Within g old.disk new.disk
+    (λ c. ShowsFrom (WasEmpty g new.opened) (LeftNoFile g new.opened) old.synced log (entries c)))
 
 -- What a crash leaves once a group was written. Each image spells the log up to the last durable record, and has the newest
 -- file as it is read. Where the log was empty at the opening its files are the log's, and where there was no file then,
@@ -158,7 +168,8 @@ pub record IsDurable {D : Type 0} (g : Ghosts D) (old new : WriterView D) : Type
       (c : Image) → g.may_leave new.disk c → Spells (entries c) (log_up_to new.synced log))
   pub newest : IsTrue (g.tells old.disk) → IsSynced g new.disk (number_of_newest new.segments)
   pub whole : IsTrue (g.tells old.disk) → OfPlacedLog g new (λ log. WasEmpty g new.opened
-      → (c : Image) → g.may_leave new.disk c → HoldsLog (LeftNoFile g new.opened) 0 (entries c) (take new.synced log.records))
+      → (c : Image) → g.may_leave new.disk c
+      → HoldsLog (LeftNoFile g new.opened) 0 (entries c) (take new.synced log.records))
 
 -- ---- what a crash leaves of the files that were found
 

@@ -81,7 +81,8 @@ impl Chunk {
     pub(crate) fn add(&mut self, bytes: &[u8])
         requires fits { length self.old.bytes + length bytes.now ≤ CHUNK_HEAD + BODY_LIMIT }
         requires count { self.old.count < MOST_RECORDS }
-        ensures { self.new ≡ record { count = self.old.count + 1; bytes = self.old.bytes ++ bytes.now } }
+        ensures { self.new
+            ≡ record { count = self.old.count + 1; bytes = self.old.bytes ++ bytes.now } }
     {
         // There is room, so it doesn't fail.
         let _ = self.bytes.extend_from_slice(bytes);
@@ -91,9 +92,11 @@ impl Chunk {
     /// Writes the head, and the closed gate of the next chunk behind the records.
     pub(crate) fn seal(&mut self, first: u64)
         requires { IsOpenChunk self.old }
-        ensures { self.new ≡ record { count = self.old.count;
-            bytes = chunk_head (length self.old.bytes - CHUNK_HEAD) self.old.count first
-            ++ drop CHUNK_HEAD self.old.bytes ++ 0 ∷ [] } }
+        ensures { self.new ≡ record {
+          count = self.old.count;
+          bytes = chunk_head (length self.old.bytes - CHUNK_HEAD) self.old.count first
+              ++ drop CHUNK_HEAD self.old.bytes ++ 0 ∷ [];
+        } }
     {
         let head = chunk_head(self.body_len(), self.count, first);
         self.bytes.push_reserved(0);

@@ -12,8 +12,10 @@ use frs_slots::Taker;
 fn take_one(taker: &mut Taker, kept: &mut Option<Framed>, chunk: &mut Chunk) -> bool
     requires none { kept.old ≡ None }
     requires chunk { IsOpenChunk chunk.old × (chunk.old.count < MOST_RECORDS) }
-    ensures added { IsTrue result → (kept.new ≡ None) × AddsRecord taker.old taker.new chunk.old chunk.new }
-    ensures stopped { (IsTrue result → ⊥) → StopsGroup taker.old taker.new kept.new chunk.old chunk.new }
+    ensures added { IsTrue result → (kept.new ≡ None)
+        × AddsRecord taker.old taker.new chunk.old chunk.new }
+    ensures stopped { (IsTrue result → ⊥)
+        → StopsGroup taker.old taker.new kept.new chunk.old chunk.new }
 {
     let Ok(framed) = taker.take() else {
         return false;
@@ -32,7 +34,8 @@ fn take_one(taker: &mut Taker, kept: &mut Option<Framed>, chunk: &mut Chunk) -> 
 pub(crate) fn gather(taker: &mut Taker, kept: &mut Option<Framed>, chunk: &mut Chunk, limit: u32)
     requires { (1 ≤ limit) × (limit ≤ MOST_RECORDS) }
     ensures { (group : List (List ℕ))
-        × GathersGroup limit taker.old taker.new kept.old kept.new group × HasGroup chunk.new group }
+        × GathersGroup limit taker.old taker.new kept.old kept.new group
+        × HasGroup chunk.new group }
 {
     chunk.clear();
     if let Some(framed) = kept.take() {

@@ -84,15 +84,18 @@ fn copy(alloc: Global, segment: &Segment) -> Result<Segment, NoMemory>
 
 // Removes these files, in this order.
 fn remove_all<D: Disk>(disk: &mut D, numbers: &[u64]) -> Result<(), Fault>
-    requires there { IsTrue (D.tells disk.old) → All (λ n. IsSome (get (D.reads disk.old) n)) numbers.now }
+    requires there { IsTrue (D.tells disk.old)
+        → All (λ n. IsSome (get (D.reads disk.old) n)) numbers.now }
     requires rising { IsTrue (D.tells disk.old) → IsStrictlyIncreasing numbers.now }
 
-    ensures images { Within D.Disk disk.old disk.new (IsMissingSome numbers.now (D.may_leave disk.old)) }
+    ensures images { Within D.Disk disk.old disk.new
+        (IsMissingSome numbers.now (D.may_leave disk.old)) }
     ensures removed { IsTrue (D.tells disk.old)
         → MissesSome numbers.now (D.reads disk.old) (D.reads disk.new) }
     ensures gone { OnOk result (IsTrue (D.tells disk.old)
         → All (λ n. get (D.reads disk.new) n ≡ None) numbers.now) }
-    ensures pending { (n : ℕ) → D.removing disk.new n → D.removing disk.old n ⊎ Contains numbers.now n }
+    ensures pending { (n : ℕ) → D.removing disk.new n → D.removing disk.old n
+        ⊎ Contains numbers.now n }
     ensures frame { GoesOn D.Disk disk.old disk.new }
     ensures cause { HasCause (D.faults disk.old) (D.faults disk.new) result }
 {
@@ -122,7 +125,8 @@ pub(crate) fn open_next<D: Disk>(
     ensures durable { OnOk result (IsSynced D.Disk disk.new number) }
     ensures others { IsTrue (D.tells disk.old) → (q : ℕ) → number < q
         → get (D.reads disk.old) q ≡ None → get (D.reads disk.new) q ≡ None }
-    ensures pending { (n : ℕ) → D.removing disk.new n → D.removing disk.old n ⊎ Contains half.now n }
+    ensures pending { (n : ℕ) → D.removing disk.new n → D.removing disk.old n
+        ⊎ Contains half.now n }
     ensures frame { GoesOn D.Disk disk.old disk.new }
     ensures cause { HasCause (D.faults disk.old) (D.faults disk.new) result }
 {

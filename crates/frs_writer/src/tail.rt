@@ -46,12 +46,7 @@ pub(crate) fn take_places(
 }
 
 // Writes the bytes of a chunk behind the closed gate at the end of a segment, and opens the gate.
-fn append_chunk<D: Disk>(
-    disk: &mut D,
-    number: u64,
-    gate_at: u64,
-    body: &[u8],
-) -> Result<(), Fault>
+fn append_chunk<D: Disk>(disk: &mut D, number: u64, gate_at: u64, body: &[u8]) -> Result<(), Fault>
     requires gate { IsTrue (D.tells disk.old) → IsAtGate gate_at (get (D.reads disk.old) number) }
     requires synced { IsTrue (D.tells disk.old) → IsSynced D.Disk disk.old number }
     requires fits { gate_at + 1 < 2 ^ 64 }
@@ -64,7 +59,8 @@ fn append_chunk<D: Disk>(
     // A crash in the call leaves the bytes up to the gate and a closed gate, or the whole chunk.
     ensures images { IsTrue (D.tells disk.old) → Within D.Disk disk.old disk.new
         (λ c. IsShut (take gate_at (bytes_at (D.reads disk.old) number)) (get c number)
-        ⊎ (get c number ≡ Some (take gate_at (bytes_at (D.reads disk.old) number) ++ 1 ∷ body.now))) }
+        ⊎ (get c number
+        ≡ Some (take gate_at (bytes_at (D.reads disk.old) number) ++ 1 ∷ body.now))) }
     ensures frame { ChangesOneFile D.Disk number disk.old disk.new }
     ensures cause { HasCause (D.faults disk.old) (D.faults disk.new) result }
 {
@@ -130,7 +126,8 @@ pub(crate) fn put_group<D: Disk>(
         → IsAtGate (segment.old.length - 1) (get (D.reads disk.old) segment.old.number) }
     requires synced { IsTrue (D.tells disk.old) → IsSynced D.Disk disk.old segment.old.number }
     requires long { HasLength segment.old × (segment.old.«end» ≤ NUMBER_LIMIT) }
-    ensures put { (group : List (List ℕ)) × GathersGroup limit taker.old taker.new kept.old kept.new group
+    ensures put { (group : List (List ℕ))
+        × GathersGroup limit taker.old taker.new kept.old kept.new group
         × (length group ≡ 0 → (result ≡ Ok 0) × (disk.new ≡ disk.old)
         × (segment.new ≡ record segment.old { chunks = places.items }))
         × (1 ≤ length group → PutsGroup D.Disk disk.old disk.new

@@ -92,7 +92,8 @@ fn draw(drawer: &mut Drawer, framed: Framed) -> bool {
 }
 
 fn empty_disk(alloc: Global, failing: Vec<u64>) -> Result<MemDisk, NoMemory>
-    ensures { IfOk result (λ disk. (entries (files_of disk) ≡ []) × ((n : ℕ) → removed_on disk n → ⊥)) }
+    ensures { IfOk result (λ disk. (entries (files_of disk) ≡ [])
+        × ((n : ℕ) → removed_on disk n → ⊥)) }
 {
     let plan = FaultPlan {
         failing,
@@ -300,7 +301,8 @@ fn a_log_rolls_over_three_segments(rt: HostRuntime) -> Result<(), Fail> {
 
 // What there is to find where file 1 has the one byte 1.
 fn half_made(alloc: Global) -> Result<Found, NoMemory>
-    ensures { IfOk result (λ found. IsFound ((1, 1 ∷ []) ∷ []) [] (record { first = 1; records = [] }) found) }
+    ensures { IfOk result
+        (λ found. IsFound ((1, 1 ∷ []) ∷ []) [] (record { first = 1; records = [] }) found) }
 {
     let mut half = Vec::new(alloc);
     half.push(1)?;

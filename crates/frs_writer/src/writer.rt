@@ -91,7 +91,8 @@ impl<D: Disk> Writer<D> {
         // What a crash in the call leaves, and what one after it does.
         ensures crash { (IfOk result (λ w. LeavesFound D.Disk disk w.disk))
             × IfErr result (λ e. LeavesFound D.Disk disk e.disk) }
-        ensures durable { IfOk result (λ w. IsDurableAtOpening D.Disk disk w.disk (found.now.greatest + 1)) }
+        ensures durable { IfOk result
+            (λ w. IsDurableAtOpening D.Disk disk w.disk (found.now.greatest + 1)) }
 
         ensures frame { (IfOk result (λ w. GoesOn D.Disk disk w.disk))
             × IfErr result (λ e. GoesOn D.Disk disk e.disk) }
@@ -139,8 +140,11 @@ impl<D: Disk> Writer<D> {
     /// Notes a receipt, which has to be of the taker's ring: more records are then sure. Takes no memory.
     pub fn learn(&mut self, filled: Filled)
         requires { filled.ring ≡ self.old.taker.ring }
-        ensures in_order { filled.lsn ≡ self.old.taker.first + self.old.taker.sure → self.new ≡ record self.old { taker = record self.old.taker { sure = self.old.taker.sure + 1 } } }
-        ensures other { filled.lsn ≢ self.old.taker.first + self.old.taker.sure → self.new ≡ self.old }
+        ensures in_order { filled.lsn ≡ self.old.taker.first + self.old.taker.sure
+            → self.new
+            ≡ record self.old { taker = record self.old.taker { sure = self.old.taker.sure + 1 } } }
+        ensures other { filled.lsn ≢ self.old.taker.first + self.old.taker.sure
+            → self.new ≡ self.old }
     {
         self.taker.learn(filled);
     }
@@ -151,8 +155,11 @@ impl<D: Disk> Writer<D> {
         requires { AreOfOneRing (E.drawer end.old) self.old.taker }
         ensures one_ring { AreOfOneRing (E.drawer end.new) self.new.taker }
         ensures prefix { IsPrefix self.new.taker.taken (E.drawer end.new).drawn }
-        ensures known { (min self.new.taker.sure (length (E.drawer end.new).drawn) ≤ self.new.taker.known) × (self.new.taker.known ≤ length (E.drawer end.new).drawn) }
-        ensures taker { (self.new ≡ record self.old { taker = record self.old.taker { known = self.new.taker.known } }) × (self.old.taker.known ≤ self.new.taker.known) }
+        ensures known { (min self.new.taker.sure (length (E.drawer end.new).drawn) ≤ self.new.taker.known)
+            × (self.new.taker.known ≤ length (E.drawer end.new).drawn) }
+        ensures taker { (self.new
+            ≡ record self.old { taker = record self.old.taker { known = self.new.taker.known } })
+            × (self.old.taker.known ≤ self.new.taker.known) }
         ensures drawer { E.drawer end.new ≡ E.drawer end.old }
         ensures others { E.is_else_as end.old end.new }
     {
@@ -164,10 +171,21 @@ impl<D: Disk> Writer<D> {
         requires one_ring { AreOfOneRing (E.drawer end.old) self.old.taker }
         requires taken_up { IsTakenUp (E.drawer end.old) self.old.taker }
         ensures one_ring { AreOfOneRing (E.drawer end.new) self.new.taker }
-        ensures drawer { OnOk result (E.drawer end.new ≡ record (E.drawer end.old) { ring = (E.drawer end.new).ring; known_taken = length (E.drawer end.old).drawn }) }
+        ensures drawer { OnOk result (E.drawer end.new
+            ≡ record (E.drawer end.old) {
+              ring = (E.drawer end.new).ring;
+              known_taken = length
+                  (E.drawer end.old).drawn;
+            }) }
         ensures room { OnOk result (HasRoom (E.drawer end.new)) }
-        ensures taker { OnOk result ((self.new ≡ record self.old { taker = record self.old.taker { ring = self.new.taker.ring; known = self.new.taker.known } }) × (self.old.taker.known ≤ self.new.taker.known)) }
-        ensures refused { OnErr result ((E.drawer end.new ≡ E.drawer end.old) × (self.new ≡ self.old)) }
+        ensures taker { OnOk result ((self.new
+            ≡ record self.old {
+              taker = record self.old.taker
+                  { ring = self.new.taker.ring; known = self.new.taker.known };
+            })
+            × (self.old.taker.known ≤ self.new.taker.known)) }
+        ensures refused { OnErr result ((E.drawer end.new ≡ E.drawer end.old)
+            × (self.new ≡ self.old)) }
         ensures others { E.is_else_as end.old end.new }
     {
         end.renew(alloc, &mut self.taker)
@@ -212,8 +230,10 @@ impl<D: Disk> Writer<D> {
         requires client { (1 ≤ client) × (client ≤ length self.old.noted) }
         requires rising { slice_index self.old.noted (client - 1) ≤ lsn }
         ensures exact { IsOk result ↔ (lsn ≤ self.old.synced) }
-        ensures noted { OnOk result (self.new ≡ record self.old { noted = slice_set self.old.noted (client - 1) lsn }) }
-        ensures not_yet { IfErr result (λ refused. (self.new ≡ self.old) × (refused.synced ≡ self.old.synced)) }
+        ensures noted { OnOk result (self.new
+            ≡ record self.old { noted = slice_set self.old.noted (client - 1) lsn }) }
+        ensures not_yet { IfErr result (λ refused. (self.new ≡ self.old)
+            × (refused.synced ≡ self.old.synced)) }
     {
         if lsn > self.synced {
             return Err(NotYet {
@@ -238,7 +258,8 @@ impl<D: Disk> Writer<D> {
         ensures wrote { IfOk result (λ count. WritesGroup limit count self.old self.new) }
         ensures cause { HasWriteCause D.Disk self.old self.new result }
         ensures limit { self.old.ended ≡ None → is_due self.old ≡ true
-            → number_of_newest self.old.segments + 1 ≡ NUMBER_LIMIT → IsErrOf result (NumberLimit NUMBER_LIMIT) }
+            → number_of_newest self.old.segments + 1 ≡ NUMBER_LIMIT
+            → IsErrOf result (NumberLimit NUMBER_LIMIT) }
         ensures refused { OnErr result (self.new.synced ≡ self.old.synced) }
         ensures same { (self.new.opened ≡ self.old.opened) × (self.new.noted ≡ self.old.noted) }
 
@@ -291,7 +312,8 @@ impl<D: Disk> Writer<D> {
         ensures none { IfOk result (λ room. room ≡ None → self.new ≡ self.old) }
         ensures cause { HasWriteCause D.Disk self.old self.new result }
         ensures limit { is_due self.old ≡ true
-            → number_of_newest self.old.segments + 1 ≡ NUMBER_LIMIT → IsErrOf result (NumberLimit NUMBER_LIMIT) }
+            → number_of_newest self.old.segments + 1 ≡ NUMBER_LIMIT
+            → IsErrOf result (NumberLimit NUMBER_LIMIT) }
         ensures refused { OnErr result (self.new
             ≡ record self.old { disk = self.new.disk; ended = self.new.ended }) }
         ensures crash { LeavesLog D.Disk self.old self.new }

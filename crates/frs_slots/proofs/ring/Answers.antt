@@ -1,7 +1,7 @@
 -- The two ends are those of a pair.
 use Rattle.std.proofs.Common.{ap, ◌∙◌, sym}
 use Rattle.frs_slots.specs.Views.{DrawerView, TakerView}
-use Rattle.frs_slots.proofs.Naming.{pair_named}
+use Rattle.frs_slots.proofs.NameOfEnd.{pair_named}
 use Rattle.frs_slots.proofs.ring.Goals as goal
 
 pub returns-clause-one_ring : goal.returns-clause-one_ring

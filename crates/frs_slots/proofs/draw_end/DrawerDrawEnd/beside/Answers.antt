@@ -2,8 +2,8 @@
 use Rattle.std.proofs.Common.{length, sym, ◌∙◌, ap, arith, length-append}
 use Rattle.rtrb.specs.Ring.{received, known_items}
 use Rattle.frs_slots.specs.Views.{DrawerView, TakerView}
-use Rattle.frs_slots.proofs.Naming.{is_pair, still_paired, seen_paired, drawer_kept, taker_kept}
-use Rattle.frs_slots.proofs.Counting.{longer}
+use Rattle.frs_slots.proofs.NameOfEnd.{is_pair, still_paired, seen_paired, drawer_kept, taker_kept}
+use Rattle.frs_slots.proofs.Counts.{longer}
 use Rattle.frs_slots.proofs.draw_end.DrawerDrawEnd.beside.Goals as goal
 
 pub slots_beside-requires : goal.slots_beside-requires

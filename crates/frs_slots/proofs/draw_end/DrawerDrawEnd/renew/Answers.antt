@@ -1,7 +1,7 @@
 -- Both ends stay on their ring.
 use Rattle.std.proofs.Common.{sym, ◌∙◌, ap}
 use Rattle.frs_slots.specs.Views.{DrawerView, TakerView}
-use Rattle.frs_slots.proofs.Naming.{is_pair, still_paired, seen_paired}
+use Rattle.frs_slots.proofs.NameOfEnd.{is_pair, still_paired, seen_paired}
 use Rattle.frs_slots.proofs.draw_end.DrawerDrawEnd.renew.Goals as goal
 
 pub slots_beside-requires : goal.slots_beside-requires

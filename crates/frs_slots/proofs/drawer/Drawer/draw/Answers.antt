@@ -2,7 +2,7 @@
 use Rattle.std.proofs.Common.{[], ◌∷◌, ◌++◌, ap, ◌∙◌, arith}
 use Rattle.frs_slots.specs.Views.{DrawerView, next_drawn}
 use Rattle.frs_slots.specs.Names.{Pushes, pushes_on}
-use Rattle.frs_slots.proofs.Naming.{pushes_kept}
+use Rattle.frs_slots.proofs.NameOfEnd.{pushes_kept}
 use Rattle.frs_slots.proofs.drawer.Drawer.draw.Goals as goal
 
 pub returns-clause-drawn : goal.returns-clause-drawn

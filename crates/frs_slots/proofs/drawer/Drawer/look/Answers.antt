@@ -1,6 +1,6 @@
 -- A look leaves the records, and what is free was taken.
 use Rattle.std.proofs.Common.{arith}
-use Rattle.frs_slots.proofs.Naming.{drawer_kept}
+use Rattle.frs_slots.proofs.NameOfEnd.{drawer_kept}
 use Rattle.frs_slots.proofs.drawer.Drawer.look.Goals as goal
 
 pub returns : goal.returns

@@ -1,15 +1,15 @@
 -- A pop takes the next item, and the counts follow.
 use Rattle.std.proofs.Common.{◌≡◌, ◌+◌, ◌-◌, max, ◌∷◌, length, ap, ◌∙◌, refl, arith}
 use Rattle.rtrb.specs.Ring.{received, known_items}
-use Rattle.frs_slots.proofs.Counting.{longer, one_longer, left_within, right_within, greater_within}
-use Rattle.frs_slots.proofs.Naming.{taker_kept, pops_kept}
+use Rattle.frs_slots.proofs.Counts.{longer, one_longer, left_within, right_within, greater_within}
+use Rattle.frs_slots.proofs.NameOfEnd.{taker_kept, pops_kept}
 use Rattle.frs_slots.proofs.taker.Taker.take.Goals as goal
 
 pub invariant_of-self : goal.invariant_of-self
 invariant_of-self c =
     let n = one_longer (received c.self.inside.consumer) (received c.pop.new.self) c.in-Ok.framed c.in-Ok.ensures.ok.0 in
     let m = longer (known_items c.self.inside.consumer) (c.in-Ok.framed ∷ known_items c.pop.new.self) c.in-Ok.ensures.ok.1 in
-    let old = c.self.invariant in let below = c.if-self-eq-END.false in
+    let old = c.self.invariant in let below = c.if-self-eq-NUMBER_LIMIT.false in
     let taken = c.self.inside.next + 1 - c.self.inside.first in
     let top = 4611686018427387904 - c.self.inside.first in
     let sure = greater_within c.self.inside.sure taken c.max-self-inside.result top c.max-self-inside.ensures (omega (arith, old)) (omega (arith, old, below)) in
@@ -28,7 +28,7 @@ invariant_of-self c =
 pub returns-in-Ok-clause-taken : goal.returns-in-Ok-clause-taken
 returns-in-Ok-clause-taken c =
     let n = one_longer (received c.self.inside.consumer) (received c.pop.new.self) c.in-Ok.framed c.in-Ok.ensures.ok.0 in
-    let old = c.self.invariant in let below = c.if-self-eq-END.false in
+    let old = c.self.invariant in let below = c.if-self-eq-NUMBER_LIMIT.false in
     let taken = c.self.inside.next + 1 - c.self.inside.first in
     let count : taken ≡ length (received c.pop.new.self) = omega (arith, old, n) in
     rw (← c.self.view_is) (

@@ -38,8 +38,8 @@ pub returns-in-Err-clause-crash : goal.returns-in-Err-clause-crash
 returns-in-Err-clause-crash g c = (
   tt,
   opening_found g.D.Disk g.met.D.Disk.as_read g.met.D.Disk.counts_now g.met.D.Disk.stays_absent c.one_log.ensures.log
-    c.args.disk c.open_next.new.disk c.args.found.now c.requires.found c.requires.pending c.requires.greatest c.if-number-eq-NUMBER_LIMIT.false c.items.result.now c.items.ensures
-    c.args.taker c.requires.taker c.next-first.result c.next-first.ensures.next c.next-first.ensures.first c.open_next.ensures.images,
+      c.args.disk c.open_next.new.disk c.args.found.now c.requires.found c.requires.pending c.requires.greatest c.if-number-eq-NUMBER_LIMIT.false c.items.result.now c.items.ensures
+      c.args.taker c.requires.taker c.next-first.result c.next-first.ensures.next c.next-first.ensures.first c.open_next.ensures.images,
 )
 
 pub invariant_of-result : goal.invariant_of-result
@@ -61,8 +61,8 @@ invariant_of-result g c =
 pub returns-clause-crash : goal.returns-clause-crash
 returns-clause-crash g c = (
   opening_found g.D.Disk g.met.D.Disk.as_read g.met.D.Disk.counts_now g.met.D.Disk.stays_absent c.one_log.ensures.log
-    c.args.disk c.open_next.new.disk c.args.found.now c.requires.found c.requires.pending c.requires.greatest c.if-number-eq-NUMBER_LIMIT.false c.items.result.now c.items.ensures
-    c.args.taker c.requires.taker c.next-first.result c.next-first.ensures.next c.next-first.ensures.first c.open_next.ensures.images,
+      c.args.disk c.open_next.new.disk c.args.found.now c.requires.found c.requires.pending c.requires.greatest c.if-number-eq-NUMBER_LIMIT.false c.items.result.now c.items.ensures
+      c.args.taker c.requires.taker c.next-first.result c.next-first.ensures.next c.next-first.ensures.first c.open_next.ensures.images,
   tt,
 )
 
@@ -70,8 +70,8 @@ pub returns-clause-durable : goal.returns-clause-durable
 returns-clause-durable g c = record {
   newest = λ told. c.in_default-open_next.ensures.durable;
   whole = durable_none g.D.Disk g.met.D.Disk.as_read g.met.D.Disk.counts_now g.met.D.Disk.stays_absent c.one_log.ensures.log
-    c.args.disk c.open_next.new.disk c.args.found.now c.requires.found c.requires.pending c.requires.greatest c.if-number-eq-NUMBER_LIMIT.false c.items.result.now c.items.ensures
-    c.args.taker c.requires.taker c.next-first.result c.next-first.ensures.next c.next-first.ensures.first c.open_next.ensures.images
+      c.args.disk c.open_next.new.disk c.args.found.now c.requires.found c.requires.pending c.requires.greatest c.if-number-eq-NUMBER_LIMIT.false c.items.result.now c.items.ensures
+      c.args.taker c.requires.taker c.next-first.result c.next-first.ensures.next c.next-first.ensures.first c.open_next.ensures.images
       c.args.clients c.requires.clients c.open_next.ensures.frame.time.later c.open_next.ensures.frame.told c.in_default-open_next.ensures.durable c.in_default-open_next.ensures.made
       c.open_next.ensures.others c.open_next.ensures.pending;
 }

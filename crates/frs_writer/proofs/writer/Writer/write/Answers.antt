@@ -85,7 +85,7 @@ invariant_of-self-in-Ok g c =
     record {
       kept_is = subst (λ (n : ℕ). IsKept d (record { opened = w.opened; disk = mid; taker = t; kept = still; segments = segments; noted = w.noted; synced = w.synced + n; ended = w.ended })) (sym c.from.ensures)
           (ok_kept d g.met.D.Disk.as_read g.met.D.Disk.counts_now g.met.D.Disk.only_now w kept fine
-    c.args.limit c.requires.limit.1 t still group gathered mid after c.put_group-written.result put short
+          c.args.limit c.requires.limit.1 t still group gathered mid after c.put_group-written.result put short
           c.in-Ok.count c.in-Ok.is segments back);
       count = c.self.invariant.count;
       later = omega (arith, c.self.invariant.later, c.in-Ok.ensures.cause);
@@ -210,7 +210,7 @@ invariant_of-self-in-Err g c =
     let broken = broke ℕ (d.faults c.self.inside.opened.value) (d.faults w.disk) (d.faults mid) c.in-Err.fault c.self.invariant.later c.in-Err.ensures.cause in
     record {
       kept_is = err_kept d g.met.D.Disk.as_read g.met.D.Disk.counts_now g.met.D.Disk.only_now w kept fine
-    c.args.limit c.requires.limit.1 t still group gathered mid after c.put_group-written.result put short
+          c.args.limit c.requires.limit.1 t still group gathered mid after c.put_group-written.result put short
           c.in-Err.fault c.in-Err.is segments back;
       count = c.self.invariant.count;
       later = broken.0;
