@@ -27,7 +27,8 @@ IsMeant s = (file : File) × IsSegment file s
 -- disk doesn't tell the file.
 abbrev pub TellsSegment : Bool → File → Option Segment → Type 0
 TellsSegment tells file None = IsTrue tells → IsTrue (not (is_open_file file))
-TellsSegment tells file (Some found) = (s : WholeSegment) × IsMeant s × (s.number ≡ file.0) × (found ≡ places_of_segment s) × (IsTrue tells → IsSegment file s)
+TellsSegment tells file (Some found) =
+    (s : WholeSegment) × IsMeant s × (s.number ≡ file.0) × (found ≡ places_of_segment s) × (IsTrue tells → IsSegment file s)
 
 -- Why it was refused. The disk and memory are free.
 abbrev pub IsFileFault : File → RecoverFault → Type 0
@@ -38,7 +39,9 @@ IsFileFault file fault = (why : ScanFault) × IsRefused file why × (refusal_of 
 -- The records of the segment were read, in front of these; where the disk doesn't tell the file, those of a segment whose
 -- chunks stand at the same places.
 abbrev pub ReadsSegment : Bool → WholeSegment → List Record → BackwardReader → Type 0
-ReadsSegment tells s rs back = (t : WholeSegment) × IsMeant t × (places_of_segment t ≡ places_of_segment s) × (IsTrue tells → t ≡ s) × HasRead back t.first (records_of t ++ rs)
+ReadsSegment tells s rs back =
+    (t : WholeSegment) × IsMeant t × (places_of_segment t ≡ places_of_segment s) × (IsTrue tells → t ≡ s)
+    × HasRead back t.first (records_of t ++ rs)
 
 -- The fault is the disk's or memory's.
 abbrev pub IsOutsideFault : RecoverFault → Type 0
@@ -85,7 +88,8 @@ LooksAt tells file segments old new = PassesOver tells file old new ⊎ ReadsFil
 abbrev pub IsFaultBelow : File → List WholeSegment → RecoverFault → Type 0
 IsFaultBelow file segments fault =
     ((why : ScanFault) × IsRefused file why × (refusal_of file.0 why ≡ Some fault))
-    ⊎ ((s : WholeSegment) × IsSegment file s × IsTrue (not (ends_below s segments)) × (fault ≡ gap_below segments (end_of s - 1)))
+    ⊎ ((s : WholeSegment) × IsSegment file s × IsTrue (not (ends_below s segments))
+    × (fault ≡ gap_below segments (end_of s - 1)))
 
 abbrev pub IsWrongFile : File → List WholeSegment → RecoverFault → Type 0
 IsWrongFile file segments Disk = Unit {0}

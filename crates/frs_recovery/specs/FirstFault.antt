@@ -80,7 +80,8 @@ pub record IsGapAtEnd (older : FileList) (segments : List WholeSegment) (fault :
   pub told : fault ≡ gap_below segments 0
 
 abbrev pub IsWrongBelow : FileList → List WholeSegment → RecoverFault → Type 0
-IsWrongBelow older segments fault = IsNoSegment older fault ⊎ IsGapBetween older segments fault ⊎ IsGapAtEnd older segments fault
+IsWrongBelow older segments fault =
+    IsNoSegment older fault ⊎ IsGapBetween older segments fault ⊎ IsGapAtEnd older segments fault
 
 -- The image spells no log within the limits, and this is wrong first.
 pub record IsWrongFirst (image : FileList) (fault : RecoverFault) : Type 0 where

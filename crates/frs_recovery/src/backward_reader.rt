@@ -73,7 +73,8 @@ impl BackwardReader {
         ensures entries { (first : ℕ) (rs : List Record) → HasRead self first rs
             → result.0.items ≡ survivors_of (committed_records (offered_records first rs)) }
         ensures lowest { (first : ℕ) (rs : List Record) → HasRead self first rs
-            → result.1 ≡ least next (lsns_of (survivors_of (committed_records (offered_records first rs)))
+            → result.1 ≡ least next
+            (lsns_of (survivors_of (committed_records (offered_records first rs)))
             ++ open_begins (offered_records first rs)) }
     {
         let BackwardReader { chain, begins, .. } = self;

@@ -76,8 +76,8 @@ impl Descent {
 
     // Whether a segment ends where those above it begin.
     fn meets(&self, segment: &Segment) -> Result<(), RecoverFault>
-        ensures told { (segments : List WholeSegment) (s : WholeSegment) → HasLookedAt self.now segments
-            → IsMeant s → segment.now ≡ places_of_segment s
+        ensures told { (segments : List WholeSegment) (s : WholeSegment)
+            → HasLookedAt self.now segments → IsMeant s → segment.now ≡ places_of_segment s
             → result ≡ (if ends_below s segments then Ok tt
             else Err (gap_below segments (end_of s - 1))) }
         ensures of_files { IfErr result IsOfFiles }

@@ -92,9 +92,8 @@ lone_command x (w ∷ ws) = None
 -- ID KEY VALUE
 abbrev pub put_words : List ℕ × List ℕ × List ℕ → Option Command
 put_words w =
-    option_and_then
-    (λ id. option_and_then (λ key. option_map (λ value. command.Put id key value) (word_meaning w.2)) (name_meaning w.1))
-    (name_meaning w.0)
+    let value_with = λ id key. option_map (λ value. command.Put id key value) (word_meaning w.2) in
+    option_and_then (λ id. option_and_then (λ key. value_with id key) (name_meaning w.1)) (name_meaning w.0)
 
 -- ID KEY
 abbrev pub remove_words : List ℕ × List ℕ → Option Command

@@ -140,5 +140,5 @@ number_line name n = line (name ∷ decimal n ∷ [])
 abbrev pub stat_text : Stat → Text
 stat_text s =
     number_line (codes "segments") s.segments ++ number_line (codes "chunks") s.chunks
-    ++ number_line (codes "records") s.records ++ number_line (codes "next") s.next ++ number_line (codes "lowest") s.lowest ++ number_line (codes "live") s.live
-    ++ number_line (codes "gap") s.gap
+    ++ number_line (codes "records") s.records ++ number_line (codes "next") s.next
+    ++ number_line (codes "lowest") s.lowest ++ number_line (codes "live") s.live ++ number_line (codes "gap") s.gap
