@@ -89,11 +89,13 @@ abbrev pub lone_command : Command → List (List ℕ) → Option Command
 lone_command x [] = Some x
 lone_command x (w ∷ ws) = None
 
+-- the put of a value under an id and a key
+abbrev pub put_word : List ℕ → List ℕ → List ℕ → Option Command
+put_word id key word = option_map (λ value. command.Put id key value) (word_meaning word)
+
 -- ID KEY VALUE
 abbrev pub put_words : List ℕ × List ℕ × List ℕ → Option Command
-put_words w =
-    let value_with = λ id key. option_map (λ value. command.Put id key value) (word_meaning w.2) in
-    option_and_then (λ id. option_and_then (λ key. value_with id key) (name_meaning w.1)) (name_meaning w.0)
+put_words w = option_and_then (λ id. option_and_then (λ key. put_word id key w.2) (name_meaning w.1)) (name_meaning w.0)
 
 -- ID KEY
 abbrev pub remove_words : List ℕ × List ℕ → Option Command

@@ -100,7 +100,7 @@ fn printed(
         Err(fault) => panic!(rt; "{fault}"),
     };
     let mut maps = MemSink::of(alloc, Vec::new(alloc))?;
-    dump(alloc, recovered.entries.entries(), &mut maps)?;
+    dump(alloc, recovered.entries.items(), &mut maps)?;
     let mut numbers = MemSink::of(alloc, Vec::new(alloc))?;
     stat_text(alloc, &recovered, &mut numbers)?;
     Ok((maps, numbers))

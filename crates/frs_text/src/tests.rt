@@ -181,7 +181,7 @@ fn asked(alloc: Global, words: &str) -> Result<String, Fail> {
         Job::Run {
             plan: RunPlan::Scripts { files },
         } => {
-            for name in files.names() {
+            for name in files.items() {
                 write!(text, " {}", name.as_str())?;
             }
         }
@@ -327,5 +327,61 @@ fn two_clients(rt: HostRuntime) -> Result<(), Fail> {
     let want =
         b"1 1 begin -> done\n2 1 begin -> done\n1 2 put m a 1 -> done\n2 2 put m b 3 -> done\n1 3 put m b 2 -> waits\n2 3 put m a 4 -> deadlock\n1 3 put m b 2 -> done\n1 4 commit -> done\n2 4 commit -> abandoned\n";
     assert_eq!(rt; sink.bytes(), want.as_slice());
+    Ok(())
+}
+
+// Each last line, and its bytes.
+const LAST_LINES: [(LastLine, &str); 14] = [
+    (LastLine::Closed, "closed\n"),
+    (LastLine::DiskStop, "stopped disk\n"),
+    (LastLine::ShelfStop, "stopped shelf\n"),
+    (LastLine::LimitStop, "stopped limit\n"),
+    (LastLine::MemoryStop, "stopped memory\n"),
+    (
+        LastLine::BadScriptLine { script: 1, line: 2 },
+        "script 1 line 2 bad\n",
+    ),
+    (
+        LastLine::LongScriptLine { script: 3, line: 4 },
+        "script 3 line 4 long\n",
+    ),
+    (
+        LastLine::ScriptLineLimit { script: 5, line: 6 },
+        "script 5 line 6 limit\n",
+    ),
+    (LastLine::UnreadFile { file: 2 }, "file 2 unread\n"),
+    (LastLine::ClientLimit { clients: 65 }, "limit clients 65\n"),
+    (LastLine::Later, "later\n"),
+    (
+        LastLine::WrongHeader {
+            segment: 7,
+            offset: 14,
+        },
+        "segment 7 offset 14 header\n",
+    ),
+    (
+        LastLine::WrongChunk {
+            segment: 8,
+            offset: 22,
+        },
+        "segment 8 offset 22 chunk\n",
+    ),
+    (
+        LastLine::MissingRecord {
+            expected: 9,
+            found: 0,
+        },
+        "gap expected 9 found 0\n",
+    ),
+];
+
+#[test]
+fn last_lines(rt: HostRuntime) -> Result<(), Fail> {
+    let alloc = rt.alloc();
+    for &(last, want) in &LAST_LINES {
+        let mut sink = MemSink::of(alloc, Vec::new(alloc))?;
+        write_last_line(alloc, last, &mut sink)?;
+        assert_eq!(rt; sink.bytes(), want.as_bytes());
+    }
     Ok(())
 }
