@@ -50,7 +50,7 @@ record Holds (noted : List ℕ) (gone : List (List ℕ)) (entries : List Entry) 
 abbrev HoldsOf : Chain → List Numbered → Type 0
 HoldsOf c ls = Holds c.skips c.deletes c.replay ls
 
-abbrev at_lsn : ℕ → Record → Numbered
+abbrev pub at_lsn : ℕ → Record → Numbered
 at_lsn lsn r = record { lsn = lsn; what = r }
 
 abbrev in_front : Bool → ℕ → Record → List Numbered → List Numbered

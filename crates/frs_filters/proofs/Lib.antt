@@ -1,5 +1,5 @@
 mod HasNoted
-mod HasSeen
+pub mod HasSeen
 mod IsNoted
 pub mod LogExamples
 mod NotesAfter

@@ -18,7 +18,8 @@ is_below [] file = false
 is_below (s ∷ segments) file = nat_lt file.0 s.number
 
 -- An image spells a log by these segments, and this is what was found: the segments, the half-made files among and
--- above them, all files below them, the greatest number of a file, the next LSN, and the lowest that the newest record names.
+-- above them, all files below them, the greatest number of a file, the next LSN, and the lowest that the newest record
+-- names.
 pub record IsFound (image : FileList) (segments : List WholeSegment) (log : Log) (found : Found) : Type 0 where
   pub spelled : SpellsBy image segments log
   pub segments_are : found.segments ≡ map places_of_segment segments

@@ -189,7 +189,8 @@ fn an_empty_segment(rt: HostRuntime) -> Result<(), Fail> {
 
 // A disk without a file.
 fn empty_disk(alloc: Global) -> Result<MemDisk, NoMemory>
-    ensures { IfOk result (λ disk. (get (⟦<MemDisk as Disk>⟧.reads disk) 1 ≡ None) × (⟦<MemDisk as Disk>⟧.removing disk 1 → ⊥)) }
+    ensures { IfOk result (λ disk. (get (⟦<MemDisk as Disk>⟧.reads disk) 1 ≡ None)
+        × (⟦<MemDisk as Disk>⟧.removing disk 1 → ⊥)) }
 {
     let plan = FaultPlan {
         failing: Vec::new(alloc),
