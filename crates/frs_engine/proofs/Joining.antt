@@ -1,9 +1,11 @@
 -- How what single calls leave joins over a run of calls.
-use Rattle.std.proofs.Common.{◌≡◌, ℕ, List, [], ◌++◌, None, Result, Ok, Err, sym, ◌∙◌, ap, append_assoc}
+use Rattle.std.proofs.Common.{◌≡◌, List, [], ◌++◌, None, Result, Ok, Err, sym, ◌∙◌, ap, append_assoc}
 use Rattle.std.specs.Prelude.{OnOk}
 use Rattle.std.specs.Result.{result_err}
 use Rattle.std.proofs.lemmas.List.{append-nil}
-use Rattle.frs_disk.specs.Disk.{Image, Passes, Within}
+use Rattle.frs_disk.specs.declared.disk.Disk.{Ghosts}
+use Rattle.frs_disk.specs.Disk.{Image}
+use Rattle.frs_disk.specs.Frames.{Within, GoesOn}
 use Rattle.frs_disk.proofs.Moments.{within_join}
 use Rattle.frs_history.specs.declared.event.Ack.{Ack}
 use Rattle.frs_history.specs.Machine.{Changes}
@@ -21,16 +23,16 @@ extends_join old mid new first second =
 pub extends_same : (old new : List Changes) → old ≡ new → Extends old new
 extends_same old new is = ([], sym is ∙ sym (append-nil old))
 
-module _ {D : Type 0} (moment : D → ℕ) (left_since : D → ℕ → Image → Type 0) where
+module _ {D : Type 0} (g : Ghosts D) where
   -- what is shown before is shown still, and so is what is left later
-  pub all_shown : (old mid new : D) (commits more : List Changes) → Passes moment left_since old mid → Passes moment left_since mid new → Extends commits more
-      → Within moment left_since old mid (ShowsCommits commits) → Within moment left_since mid new (ShowsCommits more) → Within moment left_since old new (ShowsCommits more)
+  pub all_shown : (old mid new : D) (commits more : List Changes) → GoesOn g old mid → GoesOn g mid new → Extends commits more
+      → Within g old mid (ShowsCommits commits) → Within g mid new (ShowsCommits more) → Within g old new (ShowsCommits more)
   all_shown old mid new commits more first second extends had has =
-      within_join moment left_since old mid new (ShowsCommits more) first second (λ c left. known_more commits more c extends (had c left)) has
+      within_join g old mid new (ShowsCommits more) first.time second.time (λ c left. known_more commits more c extends (had c left)) has
 
   -- the same, where a call leaves what is acknowledged too
-  pub shown_join : (old mid new : D) (commits more : List Changes) (acks : List Ack) → Passes moment left_since old mid → Passes moment left_since mid new → Extends commits more
-      → Within moment left_since old mid (ShowsCommits commits) → Within moment left_since mid new (ShowsAcked more acks) → Within moment left_since old new (ShowsCommits more)
+  pub shown_join : (old mid new : D) (commits more : List Changes) (acks : List Ack) → GoesOn g old mid → GoesOn g mid new → Extends commits more
+      → Within g old mid (ShowsCommits commits) → Within g mid new (ShowsAcked more acks) → Within g old new (ShowsCommits more)
   shown_join old mid new commits more acks first second extends had has =
       all_shown old mid new commits more first second extends had (λ c left. known_acked more acks c (has c left))
 

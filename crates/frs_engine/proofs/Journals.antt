@@ -9,7 +9,9 @@ use mathlib.Core.List.{IsPrefix}
 use Rattle.frs_types.specs.declared.record.Record.{Record}
 use Rattle.frs_types.specs.Records.{Log, IsPlaced, are_placed_from, is_allowed}
 use Rattle.frs_disk.specs.declared.disk.Fault.TheVariants.{Failed}
-use Rattle.frs_disk.specs.Disk.{Image, LeftNoFile}
+use Rattle.frs_disk.specs.declared.disk.Disk.{Ghosts}
+use Rattle.frs_disk.specs.Disk.{Image}
+use Rattle.frs_disk.specs.Frames.{LeftNoFile, Within}
 use Rattle.frs_frame.specs.Spelling.{spelling}
 use Rattle.frs_segment.specs.declared.layout.Segment.{Segment}
 use Rattle.frs_segment.specs.Segments.{Spells}
@@ -147,11 +149,11 @@ gathers_one old new kept still group bytes g none known front = ⊎_elim nothing
 
 -- ---- what the writer has written
 
-module _ {D : Type 0} (tells : D → Bool) (reads : D → Image) (may_leave : D → Image → Type 0) where
+module _ {D : Type 0} (g : Ghosts D) where
   -- only what is known of the ring's other end has changed, or what was noted
-  still_written : (w : WriterView D) (rs : List Record) (taker : TakerView) (noted : List ℕ) → HasWritten tells reads may_leave w rs
+  still_written : (w : WriterView D) (rs : List Record) (taker : TakerView) (noted : List ℕ) → HasWritten g w rs
       → taker.first ≡ w.taker.first → taker.taken ≡ w.taker.taken → length rs ≤ taker.sure → (lsn : ℕ) × (noted ≡ lsn ∷ []) × (lsn ≤ length rs)
-      → HasWritten tells reads may_leave (record w { taker = taker; noted = noted }) rs
+      → HasWritten g (record w { taker = taker; noted = noted }) rs
   still_written w rs taker noted h first taken sure is_noted = record {
     first = first ∙ h.first;
     taken = taken ∙ h.taken;
@@ -166,25 +168,25 @@ module _ {D : Type 0} (tells : D → Bool) (reads : D → Image) (may_leave : D 
     holds = h.holds;
   }
 
-  pub acknowledged : (w new : WriterView D) (rs : List Record) (lsn : ℕ) → HasWritten tells reads may_leave w rs → lsn ≤ length rs → new ≡ record w { noted = slice_set w.noted 0 lsn } → HasWritten tells reads may_leave new rs
+  pub acknowledged : (w new : WriterView D) (rs : List Record) (lsn : ℕ) → HasWritten g w rs → lsn ≤ length rs → new ≡ record w { noted = slice_set w.noted 0 lsn } → HasWritten g new rs
   acknowledged w new rs lsn h le is =
-      subst (λ (v : WriterView D). HasWritten tells reads may_leave v rs) (sym is)
+      subst (λ (v : WriterView D). HasWritten g v rs) (sym is)
       (still_written w rs w.taker (slice_set w.noted 0 lsn) h refl refl h.sure (lsn, ap (λ (l : List ℕ). slice_set l 0 lsn) h.noted.1, le))
 
-  pub known_more : (w new : WriterView D) (rs : List Record) (known : ℕ) → HasWritten tells reads may_leave w rs → new ≡ record w { taker = record w.taker { known = known } } → HasWritten tells reads may_leave new rs
+  pub known_more : (w new : WriterView D) (rs : List Record) (known : ℕ) → HasWritten g w rs → new ≡ record w { taker = record w.taker { known = known } } → HasWritten g new rs
   known_more w new rs known h is =
-      subst (λ (v : WriterView D). HasWritten tells reads may_leave v rs) (sym is) (still_written w rs (record w.taker { known = known }) w.noted h refl refl h.sure h.noted)
+      subst (λ (v : WriterView D). HasWritten g v rs) (sym is) (still_written w rs (record w.taker { known = known }) w.noted h refl refl h.sure h.noted)
 
-  pub renewed : (w new : WriterView D) (rs : List Record) (ring : List (List ℕ)) (known : ℕ) → HasWritten tells reads may_leave w rs → new ≡ record w { taker = record w.taker { ring = ring; known = known } } → HasWritten tells reads may_leave new rs
+  pub renewed : (w new : WriterView D) (rs : List Record) (ring : List (List ℕ)) (known : ℕ) → HasWritten g w rs → new ≡ record w { taker = record w.taker { ring = ring; known = known } } → HasWritten g new rs
   renewed w new rs ring known h is =
-      subst (λ (v : WriterView D). HasWritten tells reads may_leave v rs) (sym is) (still_written w rs (record w.taker { ring = ring; known = known }) w.noted h refl refl h.sure h.noted)
+      subst (λ (v : WriterView D). HasWritten g v rs) (sym is) (still_written w rs (record w.taker { ring = ring; known = known }) w.noted h refl refl h.sure h.noted)
 
   -- the receipt of the next record was noted, or wasn't needed any more
   pub record Learned (w new : WriterView D) (rs : List Record) : Type 0 where
-    pub written : HasWritten tells reads may_leave new rs
+    pub written : HasWritten g new rs
     pub sure : length rs + 1 ≤ new.taker.sure
 
-  pub learned : (w new : WriterView D) (rs : List Record) (lsn : ℕ) → HasWritten tells reads may_leave w rs → lsn ≡ length rs + 1
+  pub learned : (w new : WriterView D) (rs : List Record) (lsn : ℕ) → HasWritten g w rs → lsn ≡ length rs + 1
       → (lsn ≡ w.taker.first + w.taker.sure → new ≡ record w { taker = record w.taker { sure = w.taker.sure + 1 } }) → (lsn ≢ w.taker.first + w.taker.sure → new ≡ w) → Learned w new rs
   learned w new rs lsn h next in_order other = elim (cases_eq lsn (w.taker.first + w.taker.sure)) [
     | inl is ↦ subst (λ (v : WriterView D). Learned w v rs) (sym (in_order is)) (record {
@@ -202,30 +204,30 @@ module _ {D : Type 0} (tells : D → Bool) (reads : D → Image) (may_leave : D 
 
   -- ---- the log that it writes
 
-  pub well_opened : (opened : D) → reads opened ≡ empty → LeftNoFile may_leave opened → IsWellOpened reads may_leave opened
+  pub well_opened : (opened : D) → g.reads opened ≡ empty → LeftNoFile g opened → IsWellOpened g opened
   well_opened opened is none c left =
       let now : entries c ≡ [] = no_entries c (none c left) in
-      let before : entries (reads opened) ≡ [] = no_entries (reads opened) is in
+      let before : entries (g.reads opened) ≡ [] = no_entries (g.reads opened) is in
       subst (λ a. SpellsAlike a (entries c)) (sym before) (subst (λ b. SpellsAlike [] b) (sym now) (λ log segments by. (segments, by, inr refl)))
 
-  pub was_empty : (opened : D) → reads opened ≡ empty → WasEmpty reads opened
+  pub was_empty : (opened : D) → g.reads opened ≡ empty → WasEmpty g opened
   was_empty opened is =
-      subst (λ a. Spells a (log_of [])) (sym (no_entries (reads opened) is))
+      subst (λ a. Spells a (log_of [])) (sym (no_entries (g.reads opened) is))
       ([], record { rising = refl; older = []; looked = []; files = refl; each = tt; follow = refl; enough = refl; shown = refl })
 
-  writes_log : (w : WriterView D) (rs : List Record) → (reads w.opened ≡ empty) → w.taker.taken ≡ map spelling rs → IsLog reads w (log_of rs)
+  writes_log : (w : WriterView D) (rs : List Record) → (g.reads w.opened ≡ empty) → w.taker.taken ≡ map spelling rs → IsLog g w (log_of rs)
   writes_log w rs is taken = record { base = log_of []; spelled = was_empty w.opened is; taken = rs; bytes = taken; is = refl }
 
   -- what the writer has of the records that were drawn, and what it holds then
-  module _ (old new : WriterView D) (rs : List Record) (r : Record) (h : HasWritten tells reads may_leave old rs) (opened : new.opened ≡ old.opened) (told : IsTrue (tells old.disk)) (none : LeftNoFile may_leave old.opened) where
-    reads_none : reads new.opened ≡ empty
-    reads_none = ap reads opened ∙ h.opened (subst IsTrue h.told told)
+  module _ (old new : WriterView D) (rs : List Record) (r : Record) (h : HasWritten g old rs) (opened : new.opened ≡ old.opened) (told : IsTrue (g.tells old.disk)) (none : LeftNoFile g old.opened) where
+    reads_none : g.reads new.opened ≡ empty
+    reads_none = ap g.reads opened ∙ h.opened (subst IsTrue h.told told)
 
-    left_none : LeftNoFile may_leave new.opened
-    left_none = subst (λ (d : D). LeftNoFile may_leave d) (sym opened) none
+    left_none : LeftNoFile g new.opened
+    left_none = subst (λ (d : D). LeftNoFile g d) (sym opened) none
 
     -- one more of the records, or none
-    holds_next : (k : ℕ) (c : Image) → k ≤ length (rs ++ r ∷ []) → HoldsFrom (LeftNoFile may_leave new.opened) old.synced (log_of (take k (rs ++ r ∷ []))) c → HoldsOneMore rs r c
+    holds_next : (k : ℕ) (c : Image) → k ≤ length (rs ++ r ∷ []) → HoldsFrom (LeftNoFile g new.opened) old.synced (log_of (take k (rs ++ r ∷ []))) c → HoldsOneMore rs r c
     holds_next k c within (n, from, to, holds) =
         let all : List Record = rs ++ r ∷ [] in
         let long : length all ≡ length rs + 1 = length-append rs (r ∷ []) in
@@ -240,17 +242,29 @@ module _ {D : Type 0} (tells : D → Bool) (reads : D → Image) (may_leave : D 
         last apart le = omega (arith, apart, from, le, within, h.synced, length-append rs (r ∷ []))
 
     pub holds_within : (left : Image → Type 0) → IsPrefix new.taker.taken (map spelling (rs ++ r ∷ [])) → IsPlaced (log_of (rs ++ r ∷ []))
-        → (IsWellOpened reads may_leave new.opened → (log : Log) → IsLog reads new log → IsPlaced log → WasEmpty reads new.opened → (c : Image) → left c → HoldsFrom (LeftNoFile may_leave new.opened) old.synced log c)
+        → (IsWellOpened g new.opened → (log : Log) → IsLog g new log → IsPlaced log → WasEmpty g new.opened → (c : Image) → left c → HoldsFrom (LeftNoFile g new.opened) old.synced log c)
         → (c : Image) → left c → HoldsOneMore rs r c
     holds_within left front placed whole c is_left =
         let (k, within, taken) = prefix_taken spelling new.taker.taken (rs ++ r ∷ []) front in
         holds_next k c within
         (whole (well_opened new.opened reads_none left_none) (log_of (take k (rs ++ r ∷ []))) (writes_log new (take k (rs ++ r ∷ [])) reads_none taken) (placed_front k 0 1 (rs ++ r ∷ []) placed) (was_empty new.opened reads_none) c is_left)
 
+  -- the writer learned besides how many records are known
+  module _ (mid new : WriterView D) (known : ℕ) (is : new ≡ record mid { taker = record mid.taker { known = known } }) (rs : List Record) (r : Record) where
+    pub known_front : IsPrefix new.taker.taken (map spelling (rs ++ r ∷ [])) → IsPrefix mid.taker.taken (map spelling (rs ++ r ∷ []))
+    known_front front = subst (λ (l : List (List ℕ)). IsPrefix l (map spelling (rs ++ r ∷ []))) (ap (λ (w : WriterView D). w.taker.taken) is) front
+
+    pub met_within : (old : WriterView D) → HasWritten g old rs → mid.opened ≡ old.opened → IsTrue (g.tells old.disk) → LeftNoFile g old.opened → IsPrefix new.taker.taken (map spelling (rs ++ r ∷ [])) → IsPlaced (log_of (rs ++ r ∷ []))
+        → (IsWellOpened g mid.opened → (log : Log) → IsLog g mid log → IsPlaced log → WasEmpty g mid.opened → Within g old.disk mid.disk (HoldsFrom (LeftNoFile g mid.opened) old.synced log))
+        → Within g old.disk new.disk (HoldsOneMore rs r)
+    met_within old h opened told none front placed whole c left =
+        holds_within old mid rs r h opened told none (λ (i : Image). g.left_since new.disk (g.moment old.disk) i) (known_front front) placed
+        (λ well log is_log is_placed was i since. whole well log is_log is_placed was i (subst (λ (w : WriterView D). g.left_since w.disk (g.moment old.disk) i) is since)) c left
+
   -- ---- the next record is written
 
-  module _ (count : ℕ) (old new : WriterView D) (rs : List Record) (r : Record) (h : HasWritten tells reads may_leave old rs) (known : old.taker.known ≡ length rs + 1) (sure : length rs + 1 ≤ old.taker.sure)
-      (front : IsPrefix new.taker.taken (map spelling (rs ++ r ∷ []))) (wrote : Wrote 256 count old new) (ended : new.ended ≡ None) (opened : new.opened ≡ old.opened) (noted : new.noted ≡ old.noted) (told : tells new.disk ≡ tells old.disk) where
+  module _ (count : ℕ) (old new : WriterView D) (rs : List Record) (r : Record) (h : HasWritten g old rs) (known : old.taker.known ≡ length rs + 1) (sure : length rs + 1 ≤ old.taker.sure)
+      (front : IsPrefix new.taker.taken (map spelling (rs ++ r ∷ []))) (wrote : Wrote 256 count old new) (ended : new.ended ≡ None) (opened : new.opened ≡ old.opened) (noted : new.noted ≡ old.noted) (told : g.tells new.disk ≡ g.tells old.disk) where
     all_are : map spelling (rs ++ r ∷ []) ≡ old.taker.taken ++ spelling r ∷ []
     all_are = map-append spelling rs (r ∷ []) ∙ ap (λ (l : List (List ℕ)). l ++ spelling r ∷ []) (sym h.taken)
 
@@ -265,8 +279,8 @@ module _ {D : Type 0} (tells : D → Bool) (reads : D → Image) (may_leave : D 
     pub synced_is : new.synced ≡ length (rs ++ r ∷ [])
     synced_is = omega (arith, wrote.synced, wrote.counted, gathered.one, h.synced, length-append rs (r ∷ []))
 
-    pub one_written : (IsTrue (tells old.disk) → IsWellOpened reads may_leave new.opened → (log : Log) → IsLog reads new log → IsPlaced log → WasEmpty reads new.opened → (c : Image) → may_leave new.disk c → HoldsLog (LeftNoFile may_leave new.opened) 0 (entries c) (take new.synced log.records))
-        → HasWritten tells reads may_leave new (rs ++ r ∷ [])
+    pub one_written : (IsTrue (g.tells old.disk) → IsWellOpened g new.opened → (log : Log) → IsLog g new log → IsPlaced log → WasEmpty g new.opened → (c : Image) → g.may_leave new.disk c → HoldsLog (LeftNoFile g new.opened) 0 (entries c) (take new.synced log.records))
+        → HasWritten g new (rs ++ r ∷ [])
     one_written durable =
         let long : length (rs ++ r ∷ []) ≡ length rs + 1 = length-append rs (r ∷ []) in
         record {
@@ -278,11 +292,11 @@ module _ {D : Type 0} (tells : D → Bool) (reads : D → Image) (may_leave : D 
           ended = ended;
           number = omega (arith, newest_wrote 256 count old new wrote, h.number, long);
           noted = (h.noted.0, noted ∙ h.noted.1, omega (arith, h.noted.2, long));
-          told = told ∙ h.told ∙ ap tells (sym opened);
-          opened = λ told_now. ap reads opened ∙ h.opened (subst (λ (d : D). IsTrue (tells d)) opened told_now);
+          told = told ∙ h.told ∙ ap g.tells (sym opened);
+          opened = λ told_now. ap g.reads opened ∙ h.opened (subst (λ (d : D). IsTrue (g.tells d)) opened told_now);
           holds = λ told_now left_no placed c left.
-              let told_before : IsTrue (tells old.disk) = subst IsTrue told told_now in
-              let empty_then : reads new.opened ≡ empty = ap reads opened ∙ h.opened (subst IsTrue h.told told_before) in
+              let told_before : IsTrue (g.tells old.disk) = subst IsTrue told told_now in
+              let empty_then : g.reads new.opened ≡ empty = ap g.reads opened ∙ h.opened (subst IsTrue h.told told_before) in
               subst (HoldsOnly 0 (entries c)) (ap (λ (n : ℕ). take n (rs ++ r ∷ [])) synced_is ∙ taken_all (rs ++ r ∷ []))
               ((durable told_before (well_opened new.opened empty_then left_no) (log_of (rs ++ r ∷ [])) (writes_log new (rs ++ r ∷ []) empty_then taken_is) placed (was_empty new.opened empty_then) c left).1 left_no);
         }
@@ -296,15 +310,15 @@ empty_holds c is =
 
 -- ---- why a group wasn't written
 
-pub write_cause : {D : Type 0} (faults : D → ℕ) (old new : WriterView D) (fault : WriteFault) → HasWriteCause {D = D} {X = ℕ} faults old new (Err fault) → IsOutsideStop fault → FaultHasCause (faults old.disk) (faults new.disk) (outside_fault fault)
-write_cause faults old new write.Disk cause is = cause.0
-write_cause faults old new write.Memory cause is = cause.0
-write_cause faults old new (write.Broken before now) cause is = absurd is
-write_cause faults old new (write.NumberLimit number) cause is = absurd is
+pub write_cause : {D : Type 0} (g : Ghosts D) (old new : WriterView D) (fault : WriteFault) → HasWriteCause {D = D} {X = ℕ} g old new (Err fault) → IsOutsideStop fault → FaultHasCause (g.faults old.disk) (g.faults new.disk) (outside_fault fault)
+write_cause g old new write.Disk cause is = cause.0
+write_cause g old new write.Memory cause is = cause.0
+write_cause g old new (write.Broken before now) cause is = absurd is
+write_cause g old new (write.NumberLimit number) cause is = absurd is
 
-pub is_outside : {D : Type 0} (tells : D → Bool) (reads : D → Image) (may_leave : D → Image → Type 0) (faults : D → ℕ) (old new : WriterView D) (rs : List Record) (fault : WriteFault)
-    → HasWritten tells reads may_leave old rs → length rs < 2 ^ 41 → HasWriteCause {D = D} {X = ℕ} faults old new (Err fault) → IsOutsideStop fault
-is_outside tells reads may_leave faults old new rs write.Disk h short cause = tt
-is_outside tells reads may_leave faults old new rs write.Memory h short cause = tt
-is_outside tells reads may_leave faults old new rs (write.Broken before now) h short cause = let none : None ≡ Some Failed = sym h.ended ∙ cause.3 in absurd (cc)
-is_outside tells reads may_leave faults old new rs (write.NumberLimit number) h short cause = absurd (omega (arith, cause.0, cause.1, h.number, short))
+pub is_outside : {D : Type 0} (g : Ghosts D) (old new : WriterView D) (rs : List Record) (fault : WriteFault)
+    → HasWritten g old rs → length rs < 2 ^ 41 → HasWriteCause {D = D} {X = ℕ} g old new (Err fault) → IsOutsideStop fault
+is_outside g old new rs write.Disk h short cause = tt
+is_outside g old new rs write.Memory h short cause = tt
+is_outside g old new rs (write.Broken before now) h short cause = let none : None ≡ Some Failed = sym h.ended ∙ cause.3 in absurd (cc)
+is_outside g old new rs (write.NumberLimit number) h short cause = absurd (omega (arith, cause.0, cause.1, h.number, short))

@@ -3,7 +3,9 @@ use Rattle.std.proofs.Common.{◌≡◌, ◌∙◌, ap, sym, refl, subst, arith,
 use Rattle.std.specs.Prelude.{◌==◌, Bool, true, Option, None, IsSome}
 use Rattle.std.specs.Ordering.{nat_cmp}
 use Rattle.std.specs.FinMap.{entries, empty, keys, get, get-empty, same_entries_map}
+use Rattle.frs_disk.specs.declared.disk.Disk.{Ghosts}
 use Rattle.frs_disk.specs.Disk.{Image}
+use Rattle.frs_disk.specs.Frames.{LeftNoFile, OnlyReads}
 use Rattle.frs_history.specs.declared.event.Ack.{Ack}
 use Rattle.frs_history.specs.Machine.{Changes}
 use Rattle.frs_disk.proofs.NoFiles.{entries_empty, no_entries}
@@ -32,11 +34,10 @@ none_shown commits = record { segments = []; each = tt; follow = refl; order = n
 pub empty_shown : (commits : List Changes) (image : Image) → image ≡ empty → ShowsPuts 1 (entries image) commits 0 0
 empty_shown commits image is = subst (λ (files : List (ℕ × List ℕ)). ShowsPuts 1 files commits 0 0) (sym (no_entries image is)) (none_shown commits)
 
-pub nothing_survives : (commits : List Changes) (acks : List Ack) (left now : Image → Type 0) → acks ≡ [] → ((image : Image) → left image → image ≡ empty) → ((image : Image) → now image → image ≡ empty)
-    → Survives commits acks left now
-nothing_survives commits acks left now none before after = subst (λ (as_told : List Ack). Survives commits as_told left now) (sym none) (record {
-  crash = λ image is_left. (0, 0, empty_shown commits image (before image is_left));
-  durable = λ image is_now. (0, 0, refl, omega arith, empty_shown commits image (after image is_now));
+pub nothing_survives : {D : Type 0} (g : Ghosts D) (commits : List Changes) (acks : List Ack) (old new : D) → acks ≡ [] → LeftNoFile g old → OnlyReads g old new → Survives g commits acks old new
+nothing_survives g commits acks old new none empty reads = subst (λ (as_told : List Ack). Survives g commits as_told old new) (sym none) (record {
+  crash = λ image left. (0, 0, empty_shown commits image (empty image (reads.within image left)));
+  durable = λ image now. (0, 0, refl, omega arith, empty_shown commits image (empty image (reads.crash image now)));
 })
 
 -- a count of none

@@ -1,23 +1,24 @@
--- What the endings of a run say of its status, and which one what is asked for leads to.
-use Rattle.std.proofs.Common.{◌≡◌, ◌≢◌, ◌⊎◌, inl, inr, ⊎_elim, ℕ, Bool, true, false, cond, List, [], ◌∷◌, length, Option, Some, None, Result, Ok, Err, refl, sym, ap, ◌∙◌, arith, IsTrue}
+-- Which status a cause leads to, and which ending what is asked for leads to.
+use Rattle.std.proofs.Common.{◌≡◌, ◌≢◌, ◌⊎◌, inl, inr, ⊎_elim, ℕ, Bool, true, false, cond, List, [], ◌∷◌, length, Option, Some, None, Result, Ok, Err, refl, sym, ap, subst, ◌∙◌, arith, IsTrue}
 use Rattle.std.specs.Prelude.{nat_lt}
 use Rattle.std.specs.FinMap.{keys}
 use Rattle.std.proofs.lemmas.Option.{same_Some}
 use Rattle.frs_history.specs.declared.command.Line.{Line}
 use Rattle.frs_history.specs.declared.event.Event.{Event}
-use Rattle.frs_disk.specs.declared.disk.Fault.{Fault}
-use Rattle.frs_disk.specs.declared.disk.Fault.TheVariants as faults
-use Rattle.frs_disk.specs.Disk.{Image, Rose}
+use Rattle.frs_disk.specs.declared.disk.Disk as disks
+use Rattle.frs_disk.specs.declared.outside.Files as files
+use Rattle.frs_disk.specs.Disk.{Rose}
 use Rattle.frs_text.specs.declared.plan.RunPlan.{RunPlan}
 use Rattle.frs_text.specs.declared.plan.RunPlan.TheVariants.{Scripts, Demo}
 use Rattle.frs_text.specs.declared.script_fault.ScriptFault.{ScriptFault}
 use Rattle.frs_text.specs.declared.script_fault.ScriptFault.TheVariants as script
-use Rattle.frs_engine.specs.declared.report.Ending.{Ending}
-use Rattle.frs_engine.specs.declared.report.Ending.TheVariants.{Closed, Bad, Long, Disk, Unread, Past, Crowded, Memory, Later}
-use Rattle.frs_engine.specs.Causes.{one_file, bytes_of_plan, ending_of_plan, HasOthers, IsForLater, SpellsScript, IsUnread, IsNotYet, IsCause, IsEndOfRun}
-use Rattle.frs_engine.specs.Endings.{script_in, ending_by, ending_of_stop, status_of}
+use Rattle.frs_engine.specs.declared.ending.Ending.{Ending}
+use Rattle.frs_engine.specs.declared.ending.Ending.TheVariants.{Closed, Bad, Long, Disk, Unread, Past, Crowded, Memory, Later}
+use Rattle.frs_engine.specs.Causes.{Handed, one_file, bytes_of_plan, bytes_handed, ending_of_plan, IsScript, HasOthers, SpellsScript, HasFault, ListsFiles, IsForLater, IsUnread, IsEndOfRun, IsCause}
+use Rattle.frs_engine.specs.Endings.{script_in, ending_by, status_of}
 use Rattle.frs_engine.specs.Promise.{has_puts_and_gets}
-use Rattle.frs_engine.specs.Runs.{Answers, IsSteady, is_status}
+use Rattle.frs_engine.specs.Reports.{Answers, IsSteady}
+use Rattle.frs_engine.specs.Statuses.{is_status}
 
 -- ---- the plan
 
@@ -30,7 +31,7 @@ no_bytes (Demo clients count) file none = refl
 some_bytes : (plan : RunPlan) (file : List ℕ → Option (List ℕ)) (bytes : List ℕ) → one_file plan ≡ None → bytes_of_plan plan file ≡ Some bytes → ⊥
 some_bytes plan file bytes none some = let e : None ≡ Some bytes = sym (no_bytes plan file none) ∙ some in cc
 
-pub not_zero : (plan : RunPlan) → status_of (ending_of_plan plan) ≡ 0 → ⊥
+not_zero : (plan : RunPlan) → status_of (ending_of_plan plan) ≡ 0 → ⊥
 not_zero (Scripts names) is = by (nat_lt 64 (length names)) is
   where
     by : (b : Bool) → status_of (cond b (Crowded (length names)) Later) ≡ 0 → ⊥
@@ -43,227 +44,26 @@ not_zero (Demo clients count) is = omega (arith, is)
 same_reading : (bytes : Option (List ℕ)) (f g : List ℕ) (x y : Result (List Line) ScriptFault) → bytes ≡ Some f → script_in f ≡ x → bytes ≡ Some g → script_in g ≡ y → x ≡ y
 same_reading bytes f g x y is_f x_is is_g y_is = sym x_is ∙ ap script_in (same_Some f g (sym is_f ∙ is_g)) ∙ y_is
 
-not_both : (bytes : Option (List ℕ)) (f g : List ℕ) (s : List Line) (fault : ScriptFault) → bytes ≡ Some f → script_in f ≡ Ok s → bytes ≡ Some g → script_in g ≡ Err fault → ⊥
-not_both bytes f g s fault is_f ok is_g err = let e = same_reading bytes f g (Ok s) (Err fault) is_f ok is_g err in cc
+not_both : (bytes : Option (List ℕ)) (fault : ScriptFault) → IsScript bytes → HasFault bytes fault → ⊥
+not_both bytes fault (f, s, is_f, ok) (g, is_g, err) = let e = same_reading bytes f g (Ok s) (Err fault) is_f ok is_g err in cc
 
-same_script : (bytes : Option (List ℕ)) (f g : List ℕ) (s t : List Line) → bytes ≡ Some f → script_in f ≡ Ok s → bytes ≡ Some g → script_in g ≡ Ok t → s ≡ t
-same_script bytes f g s t is_f s_is is_g t_is = let e = same_reading bytes f g (Ok s) (Ok t) is_f s_is is_g t_is in cc
+same_fault : (bytes : Option (List ℕ)) (a b : ScriptFault) → HasFault bytes a → HasFault bytes b → a ≡ b
+same_fault bytes a b (f, is_f, a_is) (g, is_g, b_is) = let e = same_reading bytes f g (Err a) (Err b) is_f a_is is_g b_is in cc
 
-same_fault : (bytes : Option (List ℕ)) (f g : List ℕ) (a b : ScriptFault) → bytes ≡ Some f → script_in f ≡ Err a → bytes ≡ Some g → script_in g ≡ Err b → a ≡ b
-same_fault bytes f g a b is_f a_is is_g b_is = let e = same_reading bytes f g (Err a) (Err b) is_f a_is is_g b_is in cc
+script_spelled : (bytes : Option (List ℕ)) (s : List Line) → SpellsScript bytes s → IsScript bytes
+script_spelled bytes s (f, is, ok, simple) = (f, s, is, ok)
+
+script_of_others : (bytes : Option (List ℕ)) → HasOthers bytes → IsScript bytes
+script_of_others bytes (f, s, is, ok, other) = (f, s, is, ok)
 
 -- a script with other commands has no puts and gets alone
-pub no_others : (bytes : Option (List ℕ)) (f : List ℕ) (s : List Line) → bytes ≡ Some f → script_in f ≡ Ok s → IsTrue (has_puts_and_gets s) → HasOthers bytes → ⊥
-no_others bytes f s is ok simple (g, t, is_g, t_is, other) =
-    let e : true ≡ false = sym simple ∙ ap has_puts_and_gets (same_script bytes f g s t is ok is_g t_is) ∙ other in cc
+pub no_others : (bytes : Option (List ℕ)) (s : List Line) → SpellsScript bytes s → HasOthers bytes → ⊥
+no_others bytes s (f, is, ok, simple) (g, t, is_g, t_is, other) =
+    let e = same_reading bytes f g (Ok s) (Ok t) is ok is_g t_is in
+    let same : s ≡ t = cc in
+    let no : true ≡ false = sym simple ∙ ap has_puts_and_gets same ∙ other in cc
 
--- ---- no run was begun
-
-pub unread_cause : (plan : RunPlan) (told : Bool) (bytes : Option (List ℕ)) (rose failed listed : Type 0) (lines : List Line) (events : List Event) (e : Ending) → events ≡ [] → IsUnread plan told bytes failed e
-    → IsCause plan told bytes rose failed listed lines events e
-unread_cause plan told bytes rose failed listed lines events Closed none u = absurd u
-unread_cause plan told bytes rose failed listed lines events (Bad n) none u = u
-unread_cause plan told bytes rose failed listed lines events (Long n) none u = u
-unread_cause plan told bytes rose failed listed lines events Disk none u = absurd u
-unread_cause plan told bytes rose failed listed lines events Unread none u = u
-unread_cause plan told bytes rose failed listed lines events (Past n) none u = u
-unread_cause plan told bytes rose failed listed lines events (Crowded n) none u = u
-unread_cause plan told bytes rose failed listed lines events Memory none u = inl none
-unread_cause plan told bytes rose failed listed lines events Later none u = ⊎_elim (λ p. inl p) (λ h. inr (inl h)) u
-
-pub unread_not_zero : (plan : RunPlan) (told : Bool) (bytes : Option (List ℕ)) (failed : Type 0) (e : Ending) → IsUnread plan told bytes failed e → status_of e ≡ 0 → ⊥
-unread_not_zero plan told bytes failed Closed u is = u
-unread_not_zero plan told bytes failed (Bad n) u is = omega (arith, is)
-unread_not_zero plan told bytes failed (Long n) u is = omega (arith, is)
-unread_not_zero plan told bytes failed Disk u is = omega (arith, is)
-unread_not_zero plan told bytes failed Unread u is = omega (arith, is)
-unread_not_zero plan told bytes failed (Past n) u is = omega (arith, is)
-unread_not_zero plan told bytes failed (Crowded n) u is = omega (arith, is)
-unread_not_zero plan told bytes failed Memory u is = omega (arith, is)
-unread_not_zero plan told bytes failed Later u is = omega (arith, is)
-
-pub unread_others : (plan : RunPlan) (told : Bool) (file : List ℕ → Option (List ℕ)) (failed : Type 0) (e : Ending) → IsTrue told → (f : List ℕ) (s : List Line) → bytes_of_plan plan file ≡ Some f → script_in f ≡ Ok s
-    → IsUnread plan told (bytes_of_plan plan file) failed e → (e ≡ Later) ⊎ (e ≡ Unread) ⊎ (e ≡ Memory)
-unread_others plan told file failed Closed t f s is ok u = absurd u
-unread_others plan told file failed (Bad n) t f s is ok u = let (g, is_g, err) = u t in absurd (not_both (bytes_of_plan plan file) f g s (script.BadLine n) is ok is_g err)
-unread_others plan told file failed (Long n) t f s is ok u = let (g, is_g, err) = u t in absurd (not_both (bytes_of_plan plan file) f g s (script.TooLong n) is ok is_g err)
-unread_others plan told file failed Disk t f s is ok u = absurd u
-unread_others plan told file failed Unread t f s is ok u = inr (inl refl)
-unread_others plan told file failed (Past n) t f s is ok u = let (g, is_g, err) = u t in absurd (not_both (bytes_of_plan plan file) f g s (script.TooMany n) is ok is_g err)
-unread_others plan told file failed (Crowded n) t f s is ok u = absurd (some_bytes plan file f u.0 is)
-unread_others plan told file failed Memory t f s is ok u = inr (inr refl)
-unread_others plan told file failed Later t f s is ok u = inl refl
-
--- ---- a run was begun
-
-pub run_cause : (plan : RunPlan) (told : Bool) (bytes : Option (List ℕ)) (rose failed listed : Type 0) (lines : List Line) (events : List Event) (e : Ending) → IsEndOfRun e → (e ≡ Disk → rose) → (e ≡ Later → listed)
-    → (IsTrue told → SpellsScript bytes lines) → IsCause plan told bytes rose failed listed lines events e
-run_cause plan told bytes rose failed listed lines events Closed ends fails lists spells = spells
-run_cause plan told bytes rose failed listed lines events Disk ends fails lists spells = (fails refl, spells)
-run_cause plan told bytes rose failed listed lines events Memory ends fails lists spells = inr spells
-run_cause plan told bytes rose failed listed lines events Later ends fails lists spells = inr (inr (λ t. let (f, is, ok, simple) = spells t in (f, lines, is, ok), lists refl))
-run_cause plan told bytes rose failed listed lines events (Bad n) ends fails lists spells = absurd ends
-run_cause plan told bytes rose failed listed lines events (Long n) ends fails lists spells = absurd ends
-run_cause plan told bytes rose failed listed lines events Unread ends fails lists spells = absurd ends
-run_cause plan told bytes rose failed listed lines events (Past n) ends fails lists spells = absurd ends
-run_cause plan told bytes rose failed listed lines events (Crowded n) ends fails lists spells = absurd ends
-
--- a run that was begun doesn't end as one whose script wasn't read
-pub run_unread : (e : Ending) → IsEndOfRun e → (status_of e ≡ 2) ⊎ (status_of e ≡ 5) ⊎ (status_of e ≡ 8) → ⊥
-run_unread Closed ends is = ⊎_elim (λ a. omega (arith, a)) (λ r. ⊎_elim (λ a. omega (arith, a)) (λ a. omega (arith, a)) r) is
-run_unread Disk ends is = ⊎_elim (λ a. omega (arith, a)) (λ r. ⊎_elim (λ a. omega (arith, a)) (λ a. omega (arith, a)) r) is
-run_unread Memory ends is = ⊎_elim (λ a. omega (arith, a)) (λ r. ⊎_elim (λ a. omega (arith, a)) (λ a. omega (arith, a)) r) is
-run_unread Later ends is = ⊎_elim (λ a. omega (arith, a)) (λ r. ⊎_elim (λ a. omega (arith, a)) (λ a. omega (arith, a)) r) is
-run_unread (Bad n) ends is = ends
-run_unread (Long n) ends is = ends
-run_unread Unread ends is = ends
-run_unread (Past n) ends is = ends
-run_unread (Crowded n) ends is = ends
-
--- nor for what stopped it
-pub stop_not_later : (stop : Option Fault) → ending_of_stop stop ≡ Later → ⊥
-stop_not_later None is = let no : Closed ≡ Later = is in cc
-stop_not_later (Some faults.Failed) is = let no : Disk ≡ Later = is in cc
-stop_not_later (Some faults.Memory) is = let no : Memory ≡ Later = is in cc
-
--- ---- the status that is answered
-
--- but for 6 and 9 the status is the one that was decided
-pub decided_is : (decided status before now : ℕ) → Answers decided status before now → status ≢ 6 → status ≢ 9 → decided ≡ status
-decided_is decided status before now answers not_sink not_memory = ⊎_elim (λ same. sym same) (λ rest. ⊎_elim (λ sink. absurd (not_sink sink.0)) (λ memory. absurd (not_memory memory)) rest) answers
-
--- a status that was decided and isn't 0 is answered, or memory ran out
-pub answered : (decided status before now : ℕ) → Answers decided status before now → (decided ≡ 0 → ⊥) → (status ≡ decided) ⊎ (status ≡ 9)
-answered decided status before now answers other = ⊎_elim (λ same. inl same) (λ rest. ⊎_elim (λ sink. absurd (other sink.1)) (λ memory. inr memory) rest) answers
-
-pub known_status : (e : Ending) (status before now : ℕ) → Answers (status_of e) status before now → IsTrue (is_status status)
-known_status e status before now answers = ⊎_elim (λ same. ap is_status same ∙ known e) (λ rest. ⊎_elim (λ sink. ap is_status sink.0) (λ memory. ap is_status memory) rest) answers
-  where
-    known : (e : Ending) → is_status (status_of e) ≡ true
-    known Closed = refl
-    known (Bad n) = refl
-    known (Long n) = refl
-    known Disk = refl
-    known Unread = refl
-    known (Past n) = refl
-    known (Crowded n) = refl
-    known Memory = refl
-    known Later = refl
-
--- ---- which cause a status has
-
-module _ (plan : RunPlan) (told : Bool) (file : List ℕ → Option (List ℕ)) (rose failed listed : Type 0) (lines : List Line) (events : List Event) where
-  pub bad_cause : (e : Ending) → IsCause plan told (bytes_of_plan plan file) rose failed listed lines events e → status_of e ≡ 2 → IsTrue told
-      → (f : List ℕ) × (line : ℕ) × (bytes_of_plan plan file ≡ Some f) × ((script_in f ≡ Err (script.BadLine line)) ⊎ (script_in f ≡ Err (script.TooLong line)))
-  bad_cause (Bad n) c is t = let (f, some, err) = c t in (f, n, some, inl err)
-  bad_cause (Long n) c is t = let (f, some, err) = c t in (f, n, some, inr err)
-  bad_cause Closed c is t = absurd (omega (arith, is))
-  bad_cause Disk c is t = absurd (omega (arith, is))
-  bad_cause Unread c is t = absurd (omega (arith, is))
-  bad_cause (Past n) c is t = absurd (omega (arith, is))
-  bad_cause (Crowded n) c is t = absurd (omega (arith, is))
-  bad_cause Memory c is t = absurd (omega (arith, is))
-  bad_cause Later c is t = absurd (omega (arith, is))
-
-  pub disk_cause : (e : Ending) → IsCause plan told (bytes_of_plan plan file) rose failed listed lines events e → status_of e ≡ 3 → rose
-  disk_cause Disk c is = c.0
-  disk_cause (Bad n) c is = absurd (omega (arith, is))
-  disk_cause (Long n) c is = absurd (omega (arith, is))
-  disk_cause Closed c is = absurd (omega (arith, is))
-  disk_cause Unread c is = absurd (omega (arith, is))
-  disk_cause (Past n) c is = absurd (omega (arith, is))
-  disk_cause (Crowded n) c is = absurd (omega (arith, is))
-  disk_cause Memory c is = absurd (omega (arith, is))
-  disk_cause Later c is = absurd (omega (arith, is))
-
-  pub files_cause : (e : Ending) → IsCause plan told (bytes_of_plan plan file) rose failed listed lines events e → status_of e ≡ 5 → failed
-  files_cause Unread c is = c
-  files_cause (Bad n) c is = absurd (omega (arith, is))
-  files_cause (Long n) c is = absurd (omega (arith, is))
-  files_cause Closed c is = absurd (omega (arith, is))
-  files_cause Disk c is = absurd (omega (arith, is))
-  files_cause (Past n) c is = absurd (omega (arith, is))
-  files_cause (Crowded n) c is = absurd (omega (arith, is))
-  files_cause Memory c is = absurd (omega (arith, is))
-  files_cause Later c is = absurd (omega (arith, is))
-
-  pub limit_cause : (e : Ending) → IsCause plan told (bytes_of_plan plan file) rose failed listed lines events e → status_of e ≡ 8
-      → ((n : ℕ) × (one_file plan ≡ None) × (ending_of_plan plan ≡ Crowded n)) ⊎ (IsTrue told → (f : List ℕ) × (line : ℕ) × (bytes_of_plan plan file ≡ Some f) × (script_in f ≡ Err (script.TooMany line)))
-  limit_cause (Crowded n) c is = inl (n, c.0, c.1)
-  limit_cause (Past n) c is = inr (λ t. let (f, some, err) = c t in (f, n, some, err))
-  limit_cause (Bad n) c is = absurd (omega (arith, is))
-  limit_cause (Long n) c is = absurd (omega (arith, is))
-  limit_cause Closed c is = absurd (omega (arith, is))
-  limit_cause Disk c is = absurd (omega (arith, is))
-  limit_cause Unread c is = absurd (omega (arith, is))
-  limit_cause Memory c is = absurd (omega (arith, is))
-  limit_cause Later c is = absurd (omega (arith, is))
-
-  pub later_cause : (e : Ending) → IsCause plan told (bytes_of_plan plan file) rose failed listed lines events e → status_of e ≡ 10 → IsNotYet plan told (bytes_of_plan plan file) listed
-  later_cause Later c is = c
-  later_cause (Bad n) c is = absurd (omega (arith, is))
-  later_cause (Long n) c is = absurd (omega (arith, is))
-  later_cause Closed c is = absurd (omega (arith, is))
-  later_cause Disk c is = absurd (omega (arith, is))
-  later_cause Unread c is = absurd (omega (arith, is))
-  later_cause (Past n) c is = absurd (omega (arith, is))
-  later_cause (Crowded n) c is = absurd (omega (arith, is))
-  later_cause Memory c is = absurd (omega (arith, is))
-
-  -- ---- which ending what is asked for leads to
-
-  -- a file that is refused
-  pub refused_ending : (e : Ending) → IsCause plan told (bytes_of_plan plan file) rose failed listed lines events e → IsTrue told → (f : List ℕ) (fault : ScriptFault) → bytes_of_plan plan file ≡ Some f → script_in f ≡ Err fault
-      → (e ≡ ending_by fault) ⊎ (status_of e ≡ 9) ⊎ (status_of e ≡ 5)
-  refused_ending Closed c t f fault is err = let (g, some, ok, simple) = c t in absurd (not_both (bytes_of_plan plan file) g f lines fault some ok is err)
-  refused_ending (Bad n) c t f fault is err = let (g, some, wrong) = c t in inl (ap ending_by (same_fault (bytes_of_plan plan file) g f (script.BadLine n) fault some wrong is err))
-  refused_ending (Long n) c t f fault is err = let (g, some, wrong) = c t in inl (ap ending_by (same_fault (bytes_of_plan plan file) g f (script.TooLong n) fault some wrong is err))
-  refused_ending Disk c t f fault is err = let (g, some, ok, simple) = c.1 t in absurd (not_both (bytes_of_plan plan file) g f lines fault some ok is err)
-  refused_ending Unread c t f fault is err = inr (inr refl)
-  refused_ending (Past n) c t f fault is err = let (g, some, wrong) = c t in inl (ap ending_by (same_fault (bytes_of_plan plan file) g f (script.TooMany n) fault some wrong is err))
-  refused_ending (Crowded n) c t f fault is err = absurd (some_bytes plan file f c.0 is)
-  refused_ending Memory c t f fault is err = inr (inl refl)
-  refused_ending Later c t f fault is err = absurd (⊎_elim
-      (λ several. some_bytes plan file f several.0 is)
-      (λ rest. ⊎_elim
-      (λ others. let (g, s, some, ok, other) = others t in not_both (bytes_of_plan plan file) g f s fault some ok is err)
-      (λ both. let (g, s, some, ok) = both.0 t in not_both (bytes_of_plan plan file) g f s fault some ok is err) rest)
-      c)
-
-  -- a script
-  pub script_ending : (e : Ending) → IsCause plan told (bytes_of_plan plan file) rose failed listed lines events e → IsTrue told → (f : List ℕ) (s : List Line) → bytes_of_plan plan file ≡ Some f → script_in f ≡ Ok s
-      → (e ≡ Closed) ⊎ (e ≡ Disk) ⊎ (e ≡ Unread) ⊎ (e ≡ Memory) ⊎ (e ≡ Later)
-  script_ending Closed c t f s is ok = inl refl
-  script_ending (Bad n) c t f s is ok = let (g, some, err) = c t in absurd (not_both (bytes_of_plan plan file) f g s (script.BadLine n) is ok some err)
-  script_ending (Long n) c t f s is ok = let (g, some, err) = c t in absurd (not_both (bytes_of_plan plan file) f g s (script.TooLong n) is ok some err)
-  script_ending Disk c t f s is ok = inr (inl refl)
-  script_ending Unread c t f s is ok = inr (inr (inl refl))
-  script_ending (Past n) c t f s is ok = let (g, some, err) = c t in absurd (not_both (bytes_of_plan plan file) f g s (script.TooMany n) is ok some err)
-  script_ending (Crowded n) c t f s is ok = absurd (some_bytes plan file f c.0 is)
-  script_ending Memory c t f s is ok = inr (inr (inr (inl refl)))
-  script_ending Later c t f s is ok = inr (inr (inr (inr refl)))
-
-  -- a script of puts and gets, on a disk that lists no file and whose count, as the files', hasn't risen
-  pub whole_ending : (e : Ending) → IsCause plan told (bytes_of_plan plan file) rose failed listed lines events e → IsTrue told → (f : List ℕ) (s : List Line) → bytes_of_plan plan file ≡ Some f → script_in f ≡ Ok s → IsTrue (has_puts_and_gets s)
-      → (rose → ⊥) → (failed → ⊥) → (listed → ⊥) → (e ≡ Closed) ⊎ (status_of e ≡ 9)
-  whole_ending e c t f s is ok simple steady read empty = ⊎_elim (λ closed. inl closed) (λ a. ⊎_elim
-      (λ disk. absurd (steady (disk_cause e c (ap status_of disk))))
-      (λ b. ⊎_elim
-      (λ unread. absurd (read (files_cause e c (ap status_of unread))))
-      (λ d. ⊎_elim (λ memory. inr (ap status_of memory)) (λ later. absurd (not_yet (later_cause e c (ap status_of later)))) d) b) a)
-      (script_ending e c t f s is ok)
-    where
-      not_yet : IsNotYet plan told (bytes_of_plan plan file) listed → ⊥
-      not_yet c = ⊎_elim (λ several. some_bytes plan file f several.0 is) (λ rest. ⊎_elim (λ others. no_others (bytes_of_plan plan file) f s is ok simple (others t)) (λ both. empty both.1) rest) c
-
--- the files and the disk are told
-pub not_yet_later : (plan : RunPlan) (told td : Bool) (file : List ℕ → Option (List ℕ)) (seen : Image) → IsNotYet plan told (bytes_of_plan plan file) (IsTrue td → keys seen ≢ []) → IsTrue told → IsTrue td → IsForLater plan file seen
-not_yet_later plan told td file seen c t d = ⊎_elim (λ several. inl several) (λ rest. ⊎_elim (λ others. inr (inl (others t))) (λ both. inr (inr (both.0 t, both.1 d))) rest) c
-
-pub risen : (before now : ℕ) → IsSteady before now → Rose before now → ⊥
-risen before now steady rose = omega (arith, steady.0, steady.1, rose)
-
--- ---- what is answered
+-- ---- endings and their statuses
 
 pub ten_later : (e : Ending) → status_of e ≡ 10 → e ≡ Later
 ten_later Later is = refl
@@ -287,13 +87,229 @@ zero_closed (Crowded n) is = absurd (omega (arith, is))
 zero_closed Memory is = absurd (omega (arith, is))
 zero_closed Later is = absurd (omega (arith, is))
 
+not_six : (e : Ending) → status_of e ≡ 6 → ⊥
+not_six Closed is = omega (arith, is)
+not_six (Bad n) is = omega (arith, is)
+not_six (Long n) is = omega (arith, is)
+not_six Disk is = omega (arith, is)
+not_six Unread is = omega (arith, is)
+not_six (Past n) is = omega (arith, is)
+not_six (Crowded n) is = omega (arith, is)
+not_six Memory is = omega (arith, is)
+not_six Later is = omega (arith, is)
+
 fault_not_zero : (fault : ScriptFault) → status_of (ending_by fault) ≡ 0 → ⊥
 fault_not_zero (script.BadLine n) is = omega (arith, is)
 fault_not_zero (script.TooLong n) is = omega (arith, is)
 fault_not_zero (script.TooMany n) is = omega (arith, is)
 fault_not_zero script.Memory is = omega (arith, is)
 
+known_ending : (e : Ending) → is_status (status_of e) ≡ true
+known_ending Closed = refl
+known_ending (Bad n) = refl
+known_ending (Long n) = refl
+known_ending Disk = refl
+known_ending Unread = refl
+known_ending (Past n) = refl
+known_ending (Crowded n) = refl
+known_ending Memory = refl
+known_ending Later = refl
+
+-- ---- why there was nothing to be run
+
+module _ {F : Type 0} (f : files.Ghosts F) (plan : RunPlan) (old new : F) where
+  pub unread_not_zero : (e : Ending) → IsUnread f plan old new e → status_of e ≡ 0 → ⊥
+  unread_not_zero e u zero = subst (IsUnread f plan old new) (zero_closed e zero) u
+
+  -- a script
+  pub unread_script : (e : Ending) → IsTrue (f.tells old) → IsScript (bytes_of_plan plan (f.file old)) → IsUnread f plan old new e → (e ≡ Later) ⊎ (e ≡ Unread) ⊎ (e ≡ Memory)
+  unread_script Closed t is u = absurd u
+  unread_script (Bad n) t is u = absurd (not_both (bytes_of_plan plan (f.file old)) (script.BadLine n) is (u t))
+  unread_script (Long n) t is u = absurd (not_both (bytes_of_plan plan (f.file old)) (script.TooLong n) is (u t))
+  unread_script Disk t is u = absurd u
+  unread_script Unread t is u = inr (inl refl)
+  unread_script (Past n) t is u = absurd (not_both (bytes_of_plan plan (f.file old)) (script.TooMany n) is (u t))
+  unread_script (Crowded n) t is u = absurd (some_bytes plan (f.file old) is.0 u.0 is.2)
+  unread_script Memory t is u = inr (inr refl)
+  unread_script Later t is u = inl refl
+
+  -- a file that is refused
+  unread_refused : (e : Ending) (fault : ScriptFault) → IsTrue (f.tells old) → HasFault (bytes_of_plan plan (f.file old)) fault → IsUnread f plan old new e
+      → (e ≡ ending_by fault) ⊎ (status_of e ≡ 9) ⊎ (status_of e ≡ 5)
+  unread_refused Closed fault t has u = absurd u
+  unread_refused (Bad n) fault t has u = inl (ap ending_by (same_fault (bytes_of_plan plan (f.file old)) (script.BadLine n) fault (u t) has))
+  unread_refused (Long n) fault t has u = inl (ap ending_by (same_fault (bytes_of_plan plan (f.file old)) (script.TooLong n) fault (u t) has))
+  unread_refused Disk fault t has u = absurd u
+  unread_refused Unread fault t has u = inr (inr refl)
+  unread_refused (Past n) fault t has u = inl (ap ending_by (same_fault (bytes_of_plan plan (f.file old)) (script.TooMany n) fault (u t) has))
+  unread_refused (Crowded n) fault t has u = absurd (some_bytes plan (f.file old) has.0 u.0 has.1)
+  unread_refused Memory fault t has u = inr (inl refl)
+  unread_refused Later fault t has u = absurd (⊎_elim
+      (λ several. some_bytes plan (f.file old) has.0 several.0 has.1)
+      (λ others. not_both (bytes_of_plan plan (f.file old)) fault (script_of_others (bytes_of_plan plan (f.file old)) (others t)) has)
+      u)
+
+-- ---- a run that was begun
+
+module _ {D : Type 0} (d : disks.Ghosts D) (old new : D) where
+  run_unread : (e : Ending) → IsEndOfRun d old new e → (status_of e ≡ 2) ⊎ (status_of e ≡ 5) ⊎ (status_of e ≡ 8) → ⊥
+  run_unread Closed ends is = ⊎_elim (λ a. omega (arith, a)) (λ r. ⊎_elim (λ a. omega (arith, a)) (λ a. omega (arith, a)) r) is
+  run_unread Disk ends is = ⊎_elim (λ a. omega (arith, a)) (λ r. ⊎_elim (λ a. omega (arith, a)) (λ a. omega (arith, a)) r) is
+  run_unread Memory ends is = ⊎_elim (λ a. omega (arith, a)) (λ r. ⊎_elim (λ a. omega (arith, a)) (λ a. omega (arith, a)) r) is
+  run_unread Later ends is = ⊎_elim (λ a. omega (arith, a)) (λ r. ⊎_elim (λ a. omega (arith, a)) (λ a. omega (arith, a)) r) is
+  run_unread (Bad n) ends is = ends
+  run_unread (Long n) ends is = ends
+  run_unread Unread ends is = ends
+  run_unread (Past n) ends is = ends
+  run_unread (Crowded n) ends is = ends
+
+  run_ending : (e : Ending) → IsEndOfRun d old new e → (e ≡ Closed) ⊎ (e ≡ Disk) ⊎ (e ≡ Memory) ⊎ (e ≡ Later)
+  run_ending Closed ends = inl refl
+  run_ending Disk ends = inr (inl refl)
+  run_ending Memory ends = inr (inr (inl refl))
+  run_ending Later ends = inr (inr (inr refl))
+  run_ending (Bad n) ends = absurd ends
+  run_ending (Long n) ends = absurd ends
+  run_ending Unread ends = absurd ends
+  run_ending (Past n) ends = absurd ends
+  run_ending (Crowded n) ends = absurd ends
+
+-- ---- which cause a status has
+
+left_only : {A B C : Type 0} → (A × B) ⊎ (C × ⊥) → A
+left_only c = ⊎_elim (λ u. u.0) (λ r. absurd r.1) c
+
+right_only : {A B C : Type 0} → (⊥ × A) ⊎ (B × C) → C
+right_only c = ⊎_elim (λ u. absurd u.0) (λ r. r.1) c
+
+module _ {D F : Type 0} (d : disks.Ghosts D) (f : files.Ghosts F) (h : Handed D F) (lines : List Line) (events : List Event) where
+  pub bad_cause : (e : Ending) → IsCause d f h lines events e → status_of e ≡ 2 → IsTrue (f.tells h.files)
+      → (line : ℕ) × (HasFault (bytes_handed f h) (script.BadLine line) ⊎ HasFault (bytes_handed f h) (script.TooLong line))
+  bad_cause (Bad n) c is t = (n, inl (left_only c t))
+  bad_cause (Long n) c is t = (n, inr (left_only c t))
+  bad_cause Closed c is t = absurd (omega (arith, is))
+  bad_cause Disk c is t = absurd (omega (arith, is))
+  bad_cause Unread c is t = absurd (omega (arith, is))
+  bad_cause (Past n) c is t = absurd (omega (arith, is))
+  bad_cause (Crowded n) c is t = absurd (omega (arith, is))
+  bad_cause Memory c is t = absurd (omega (arith, is))
+  bad_cause Later c is t = absurd (omega (arith, is))
+
+  pub disk_cause : (e : Ending) → IsCause d f h lines events e → status_of e ≡ 3 → Rose (d.faults h.disk) (d.faults h.disk_after)
+  disk_cause Disk c is = right_only c
+  disk_cause (Bad n) c is = absurd (omega (arith, is))
+  disk_cause (Long n) c is = absurd (omega (arith, is))
+  disk_cause Closed c is = absurd (omega (arith, is))
+  disk_cause Unread c is = absurd (omega (arith, is))
+  disk_cause (Past n) c is = absurd (omega (arith, is))
+  disk_cause (Crowded n) c is = absurd (omega (arith, is))
+  disk_cause Memory c is = absurd (omega (arith, is))
+  disk_cause Later c is = absurd (omega (arith, is))
+
+  pub files_cause : (e : Ending) → IsCause d f h lines events e → status_of e ≡ 5 → Rose (f.faults h.files) (f.faults h.files_after)
+  files_cause Unread c is = left_only c
+  files_cause (Bad n) c is = absurd (omega (arith, is))
+  files_cause (Long n) c is = absurd (omega (arith, is))
+  files_cause Closed c is = absurd (omega (arith, is))
+  files_cause Disk c is = absurd (omega (arith, is))
+  files_cause (Past n) c is = absurd (omega (arith, is))
+  files_cause (Crowded n) c is = absurd (omega (arith, is))
+  files_cause Memory c is = absurd (omega (arith, is))
+  files_cause Later c is = absurd (omega (arith, is))
+
+  pub limit_cause : (e : Ending) → IsCause d f h lines events e → status_of e ≡ 8
+      → ((n : ℕ) × (one_file h.plan ≡ None) × (ending_of_plan h.plan ≡ Crowded n)) ⊎ (IsTrue (f.tells h.files) → (line : ℕ) × HasFault (bytes_handed f h) (script.TooMany line))
+  limit_cause (Crowded n) c is = let u = left_only c in inl (n, u.0, u.1)
+  limit_cause (Past n) c is = inr (λ t. (n, left_only c t))
+  limit_cause (Bad n) c is = absurd (omega (arith, is))
+  limit_cause (Long n) c is = absurd (omega (arith, is))
+  limit_cause Closed c is = absurd (omega (arith, is))
+  limit_cause Disk c is = absurd (omega (arith, is))
+  limit_cause Unread c is = absurd (omega (arith, is))
+  limit_cause Memory c is = absurd (omega (arith, is))
+  limit_cause Later c is = absurd (omega (arith, is))
+
+  -- the files and the disk are told
+  pub later_cause : (e : Ending) → IsCause d f h lines events e → status_of e ≡ 10 → IsTrue (f.tells h.files) → IsTrue (d.tells h.disk) → IsForLater d f h
+  later_cause Later c is t td = ⊎_elim
+      (λ u. ⊎_elim (λ several. inl several) (λ others. inr (inl (others t))) u.0)
+      (λ r. inr (inr (script_spelled (bytes_handed f h) lines (r.0 t), r.1 td)))
+      c
+  later_cause (Bad n) c is t td = absurd (omega (arith, is))
+  later_cause (Long n) c is t td = absurd (omega (arith, is))
+  later_cause Closed c is t td = absurd (omega (arith, is))
+  later_cause Disk c is t td = absurd (omega (arith, is))
+  later_cause Unread c is t td = absurd (omega (arith, is))
+  later_cause (Past n) c is t td = absurd (omega (arith, is))
+  later_cause (Crowded n) c is t td = absurd (omega (arith, is))
+  later_cause Memory c is t td = absurd (omega (arith, is))
+
+  -- ---- which ending what is asked for leads to
+
+  module _ (e : Ending) (c : IsCause d f h lines events e) (t : IsTrue (f.tells h.files)) where
+    -- a file that is refused
+    pub refused_ending : (fault : ScriptFault) → HasFault (bytes_handed f h) fault → (e ≡ ending_by fault) ⊎ (status_of e ≡ 9) ⊎ (status_of e ≡ 5)
+    refused_ending fault has = ⊎_elim
+        (λ u. unread_refused f h.plan h.files h.files_after e fault t has u.0)
+        (λ r. absurd (not_both (bytes_handed f h) fault (script_spelled (bytes_handed f h) lines (r.0 t)) has))
+        c
+
+    -- a script with other commands
+    pub others_ending : HasOthers (bytes_handed f h) → (e ≡ Later) ⊎ (e ≡ Unread) ⊎ (e ≡ Memory)
+    others_ending has = ⊎_elim
+        (λ u. unread_script f h.plan h.files h.files_after e t (script_of_others (bytes_handed f h) has) u.0)
+        (λ r. absurd (no_others (bytes_handed f h) lines (r.0 t) has))
+        c
+
+    -- a script, on a disk that lists a file
+    pub listed_ending : IsScript (bytes_handed f h) → IsTrue (d.tells h.disk) → ListsFiles d h.disk → (e ≡ Later) ⊎ (e ≡ Unread) ⊎ (e ≡ Memory) ⊎ (e ≡ Disk)
+    listed_ending is td lists = ⊎_elim
+        (λ u. ⊎_elim (λ a. inl a) (λ b. ⊎_elim (λ a. inr (inl a)) (λ a. inr (inr (inl a))) b) (unread_script f h.plan h.files h.files_after e t is u.0))
+        (λ r. ⊎_elim
+        (λ closed. let ends : IsEndOfRun d h.disk h.disk_after Closed = subst (IsEndOfRun d h.disk h.disk_after) closed r.1 in absurd (lists (ends td)))
+        (λ b. ⊎_elim (λ a. inr (inr (inr a))) (λ k. ⊎_elim (λ a. inr (inr (inl a))) (λ a. inl a) k) b)
+        (run_ending d h.disk h.disk_after e r.1))
+        c
+
+    -- a script of puts and gets, on a disk that lists no file and whose count, as the files', hasn't risen
+    pub whole_ending : (s : List Line) → SpellsScript (bytes_handed f h) s → IsTrue (d.tells h.disk) → keys (d.reads h.disk) ≡ []
+        → (Rose (d.faults h.disk) (d.faults h.disk_after) → ⊥) → (Rose (f.faults h.files) (f.faults h.files_after) → ⊥) → (e ≡ Closed) ⊎ (status_of e ≡ 9)
+    whole_ending s spells td none steady read = ⊎_elim
+        (λ u. ⊎_elim
+        (λ later. absurd (not_later (subst (IsUnread f h.plan h.files h.files_after) later u.0)))
+        (λ b. ⊎_elim (λ unread. absurd (read (subst (IsUnread f h.plan h.files h.files_after) unread u.0))) (λ memory. inr (ap status_of memory)) b)
+        (unread_script f h.plan h.files h.files_after e t (script_spelled (bytes_handed f h) s spells) u.0))
+        (λ r. ⊎_elim
+        (λ closed. inl closed)
+        (λ b. ⊎_elim
+        (λ disk. absurd (steady (subst (IsEndOfRun d h.disk h.disk_after) disk r.1)))
+        (λ k. ⊎_elim (λ memory. inr (ap status_of memory)) (λ later. let ends : IsEndOfRun d h.disk h.disk_after Later = subst (IsEndOfRun d h.disk h.disk_after) later r.1 in absurd (ends td none)) k) b)
+        (run_ending d h.disk h.disk_after e r.1))
+        c
+      where
+        not_later : IsUnread f h.plan h.files h.files_after Later → ⊥
+        not_later u = ⊎_elim (λ several. some_bytes h.plan (f.file h.files) spells.0 several.0 spells.1) (λ others. no_others (bytes_handed f h) s spells (others t)) u
+
+pub risen : (before now : ℕ) → IsSteady before now → Rose before now → ⊥
+risen before now steady rose = omega (arith, steady.0, steady.1, rose)
+
+-- ---- the status that is answered
+
+-- but for 6 and 9 the status is the one that was decided
+pub decided_is : (decided status before now : ℕ) → Answers decided status before now → status ≢ 6 → status ≢ 9 → decided ≡ status
+decided_is decided status before now answers not_sink not_memory = ⊎_elim (λ same. sym same) (λ rest. ⊎_elim (λ sink. absurd (not_sink sink.0)) (λ memory. absurd (not_memory memory)) rest) answers
+
+-- a status that was decided and isn't 0 is answered, or memory ran out
+pub answered : (decided status before now : ℕ) → Answers decided status before now → (decided ≡ 0 → ⊥) → (status ≡ decided) ⊎ (status ≡ 9)
+answered decided status before now answers other = ⊎_elim (λ same. inl same) (λ rest. ⊎_elim (λ sink. absurd (other sink.1)) (λ memory. inr memory) rest) answers
+
 module _ (e : Ending) (status before now : ℕ) (answers : Answers (status_of e) status before now) where
+  pub known_status : IsTrue (is_status status)
+  known_status = ⊎_elim (λ same. ap is_status same ∙ known_ending e) (λ rest. ⊎_elim (λ sink. ap is_status sink.0) (λ memory. ap is_status memory) rest) answers
+
+  pub sink_cause : status ≡ 6 → Rose before now
+  sink_cause is = ⊎_elim (λ same. absurd (not_six e (sym same ∙ is))) (λ rest. ⊎_elim (λ sink. sink.2) (λ memory. absurd (omega (arith, is, memory))) rest) answers
+
   -- this status was decided, and isn't 0
   settled_at : (k : ℕ) → status_of e ≡ k → (k ≡ 0 → ⊥) → (status ≡ k) ⊎ (status ≡ 9)
   settled_at k is other = ⊎_elim (λ same. inl (same ∙ is)) (λ nine. inr nine) (answered (status_of e) status before now answers (λ zero. other (sym is ∙ zero)))
@@ -309,34 +325,6 @@ module _ (e : Ending) (status before now : ℕ) (answers : Answers (status_of e)
       (λ five. ⊎_elim (λ same. inr (inr same)) (λ memory. inr (inl memory)) (settled_at 5 five (λ zero. omega (arith, zero)))) rest)
       ends
 
-  abbrev IsPutOff : Type 0
-  IsPutOff = (status ≡ 10) ⊎ (status ≡ 9) ⊎ (status ≡ 3) ⊎ (status ≡ 5)
-
-  ten : status_of e ≡ 10 → IsPutOff
-  ten is = ⊎_elim (λ same. inl same) (λ memory. inr (inl memory)) (settled_at 10 is (λ zero. omega (arith, zero)))
-
-  nine : status_of e ≡ 9 → IsPutOff
-  nine is = ⊎_elim (λ same. inr (inl same)) (λ memory. inr (inl memory)) (settled_at 9 is (λ zero. omega (arith, zero)))
-
-  three : status_of e ≡ 3 → IsPutOff
-  three is = ⊎_elim (λ same. inr (inr (inl same))) (λ memory. inr (inl memory)) (settled_at 3 is (λ zero. omega (arith, zero)))
-
-  five : status_of e ≡ 5 → IsPutOff
-  five is = ⊎_elim (λ same. inr (inr (inr same))) (λ memory. inr (inl memory)) (settled_at 5 is (λ zero. omega (arith, zero)))
-
-  pub put_off : (plan : RunPlan) (told : Bool) (file : List ℕ → Option (List ℕ)) (seen : Image) (rose failed listed : Type 0) (lines : List Line) (events : List Event) → IsCause plan told (bytes_of_plan plan file) rose failed listed lines events e → IsTrue told
-      → (one_file plan ≡ None → e ≡ ending_of_plan plan)
-      → ((f : List ℕ) (s : List Line) → bytes_of_plan plan file ≡ Some f → script_in f ≡ Ok s → has_puts_and_gets s ≡ false → (e ≡ Later) ⊎ (e ≡ Unread) ⊎ (e ≡ Memory))
-      → (keys seen ≢ [] → e ≢ Closed) → IsForLater plan file seen → (status ≡ 10) ⊎ (status ≡ 9) ⊎ (status ≡ 3) ⊎ (status ≡ 5)
-  put_off plan told file seen rose failed listed lines events c t several others not_closed later = ⊎_elim
-      (λ p. ten (ap status_of (several p.0 ∙ p.1)))
-      (λ rest. ⊎_elim
-      (λ h. let (f, s, some, ok, other) = h in ⊎_elim (λ is. ten (ap status_of is)) (λ r. ⊎_elim (λ is. five (ap status_of is)) (λ is. nine (ap status_of is)) r) (others f s some ok other))
-      (λ both. let (f, s, some, ok) = both.0 in
-      ⊎_elim (λ closed. absurd (not_closed both.1 closed)) (λ a. ⊎_elim (λ is. three (ap status_of is)) (λ b. ⊎_elim (λ is. five (ap status_of is)) (λ d. ⊎_elim (λ is. nine (ap status_of is)) (λ is. ten (ap status_of is)) d) b) a)
-      (script_ending plan told file rose failed listed lines events e c t f s some ok)) rest)
-      later
-
   -- a script that can't be run yet
   pub others_put_off : (e ≡ Later) ⊎ (e ≡ Unread) ⊎ (e ≡ Memory) → (status ≡ 10) ⊎ (status ≡ 9) ⊎ (status ≡ 5)
   others_put_off ends = ⊎_elim
@@ -345,6 +333,27 @@ module _ (e : Ending) (status before now : ℕ) (answers : Answers (status_of e)
       (λ is. ⊎_elim (λ same. inr (inr same)) (λ memory. inr (inl memory)) (settled_at 5 (ap status_of is) (λ zero. omega (arith, zero))))
       (λ is. ⊎_elim (λ same. inr (inl same)) (λ memory. inr (inl memory)) (settled_at 9 (ap status_of is) (λ zero. omega (arith, zero)))) rest)
       ends
+
+  abbrev IsPutOff : Type 0
+  IsPutOff = (status ≡ 10) ⊎ (status ≡ 9) ⊎ (status ≡ 3) ⊎ (status ≡ 5)
+
+  put_off_others : (status ≡ 10) ⊎ (status ≡ 9) ⊎ (status ≡ 5) → IsPutOff
+  put_off_others is = ⊎_elim (λ a. inl a) (λ b. ⊎_elim (λ a. inr (inl a)) (λ a. inr (inr (inr a))) b) is
+
+  put_off_disk : e ≡ Disk → IsPutOff
+  put_off_disk is = ⊎_elim (λ same. inr (inr (inl same))) (λ memory. inr (inl memory)) (settled_at 3 (ap status_of is) (λ zero. omega (arith, zero)))
+
+  pub put_off : {D F : Type 0} (d : disks.Ghosts D) (f : files.Ghosts F) (h : Handed D F) (lines : List Line) (events : List Event) → IsCause d f h lines events e → (one_file h.plan ≡ None → e ≡ ending_of_plan h.plan)
+      → IsTrue (f.tells h.files) → IsTrue (d.tells h.disk) → IsForLater d f h → (status ≡ 10) ⊎ (status ≡ 9) ⊎ (status ≡ 3) ⊎ (status ≡ 5)
+  put_off d f h lines events c several t td later = ⊎_elim
+      (λ p. put_off_others (others_put_off (inl (several p.0 ∙ p.1))))
+      (λ rest. ⊎_elim
+      (λ others. put_off_others (others_put_off (others_ending d f h lines events e c t others)))
+      (λ both. ⊎_elim
+      (λ a. put_off_others (others_put_off (inl a)))
+      (λ b. ⊎_elim (λ a. put_off_others (others_put_off (inr (inl a)))) (λ k. ⊎_elim (λ a. put_off_others (others_put_off (inr (inr a)))) put_off_disk k) b)
+      (listed_ending d f h lines events e c t both.0 td both.1)) rest)
+      later
 
   -- a status that isn't this one, nor that of want of memory, wasn't decided so
   pub not_decided : (k : ℕ) → (k ≡ 0 → ⊥) → status ≢ k → status ≢ 9 → status_of e ≡ k → ⊥

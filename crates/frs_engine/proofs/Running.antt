@@ -13,7 +13,10 @@ use Rattle.frs_types.specs.Records.{has_words}
 use Rattle.frs_types.specs.Maps.{Maps, Table, Change, place_cmp}
 use Rattle.frs_types.specs.Maps.Change.{Set}
 use Rattle.frs_types.specs.Lawful.{StoredValue, plain_maps}
-use Rattle.frs_disk.specs.Disk.{Image, LeftNoFile}
+use Rattle.frs_disk.specs.declared.disk.Disk.{Ghosts}
+use Rattle.frs_disk.specs.Disk.{Image}
+use Rattle.frs_disk.specs.Frames.{LeftNoFile}
+use Rattle.frs_disk.proofs.Frames.{goes_on_none}
 use Rattle.frs_frame.specs.Spelling.{spelling}
 use Rattle.frs_history.specs.declared.command.Command.TheVariants as command
 use Rattle.frs_history.specs.declared.command.Line.{Line}
@@ -28,10 +31,11 @@ use Rattle.frs_engine.specs.declared.session.Run.{Run}
 use Rattle.frs_engine.specs.Entries.{table}
 use Rattle.frs_engine.specs.Journal.{HoldsOneMore}
 use Rattle.frs_engine.specs.Promise.{commits_of_run, owed_acks, puts, puts_by, is_own, Tells, ShowsCommits, ShowsPuts, ShowsAcked, ShowsAll, Completes, is_whole_in}
-use Rattle.frs_engine.specs.Session.{record_drawn, put_drawn, state_at, answer_event, IsLogOfRun, IsAnswered, IsUnderWay, IsToldAlike, IsFresh, commits_so_far, Extends}
+use Rattle.frs_engine.specs.Session.{record_drawn, put_drawn, state_at, answer_event, IsLogOfRun, IsAnswered, IsUnderWay, IsFresh, commits_so_far, Extends, IsStep}
 use Rattle.frs_writer.specs.Writing.{HoldsOnly}
 use Rattle.std.specs.FinMap.{entries}
 use Rattle.frs_engine.proofs.Answering.{put_run, put_commits, put_owed, get_run, get_commits, get_owed, acks_within}
+use Rattle.frs_engine.proofs.Joining.{extends_same}
 use Rattle.frs_engine.proofs.Logging.{log_start, puts-push, log-put, log-mark}
 use Rattle.frs_engine.proofs.Nothing.{none_by_map}
 use Rattle.frs_engine.proofs.Showing.{records_show, holds_more}
@@ -52,7 +56,7 @@ acked_records : (rs : List Record) (r : Run) (commits more : List Changes) (c : 
 acked_records rs r commits more c a is holds =
     (length rs, length (puts rs), a.within, omega (arith, a.counted), records_show 1 c rs (table r.entries.items) (length rs + 1) commits more a.log is holds)
 
-module _ {D : Type 0} (tells : D → Bool) (reads : D → Image) (may_leave : D → Image → Type 0) (j : Journal D) (r : Run) (ready : IsUnderWay tells reads may_leave j r) where
+module _ {D : Type 0} (g : Ghosts D) (j : Journal D) (r : Run) (ready : IsUnderWay g j r) where
   -- the records are as many as were drawn
   pub ready_drawn : length ready.records ≡ length j.drawer.drawn
   ready_drawn = sym (ap length ready.written.drawn.drawn ∙ length-map ready.records spelling)
@@ -62,7 +66,7 @@ module _ {D : Type 0} (tells : D → Bool) (reads : D → Image) (may_leave : D 
   ready_open (inl none) = inl (none_by_map spelling ready.records (sym ready.written.drawn.drawn ∙ none))
   ready_open (inr one) = inr (omega (arith, ready_drawn, one, ready.answered.counted))
 
-  module _ (told : IsTrue (tells j.writer.disk)) (none : LeftNoFile may_leave j.writer.opened) (c : Image) (left : may_leave j.writer.disk c) where
+  module _ (told : IsTrue (g.tells j.writer.disk)) (none : LeftNoFile g j.writer.opened) (c : Image) (left : g.may_leave j.writer.disk c) where
     ready_holds : HoldsOnly 0 (entries c) ready.records
     ready_holds = ready.written.written.holds told none ready.answered.log.placed c left
 
@@ -186,6 +190,12 @@ module _ (rs : List Record) (old new : Run) (a : IsAnswered rs old) (lsn : ℕ) 
       subst (λ (k : ℕ). IsLogOfRun (rs ++ put_drawn (table old.entries.items) k id key value ∷ []) (put place_cmp (id, key) (record { value = value; lsn = k }) (table old.entries.items)) (length rs + 1 + 1)) (sym drawn_next)
       (log-put rs (table old.entries.items) (length rs + 1) a.log id key value words (omega (arith, marks, a.counted)))
 
+  -- a crash while the put is written
+  pub put_images : length rs ≡ length old.acks.items + 1 → has_words (action.Put id key value) ≡ true → (c : Image)
+      → HoldsOneMore rs (put_drawn (table old.entries.items) lsn id key value) c → ShowsAcked (commits_so_far new) old.acks.items c
+  put_images marks words c holds =
+      acked_next rs old a (put_drawn (table old.entries.items) lsn id key value) _ (put_log marks words) (commits_so_far new) _ put_before put_after c holds
+
   pub put_answered : length rs ≡ length old.acks.items + 1 → has_words (action.Put id key value) ≡ true
       → table new.entries.items ≡ put place_cmp (id, key) (record { value = value; lsn = lsn }) (table old.entries.items)
       → new.acks.items ≡ old.acks.items ++ record { client = 1; line = n; lsn = lsn } ∷ []
@@ -241,17 +251,39 @@ module _ (rs : List Record) (old new : Run) (a : IsAnswered rs old) (n : ℕ) (i
         counted = ap length told ∙ a.counted;
       }
 
--- ---- what stays where nothing is answered
+-- ---- where no record is written
 
-pub alike_commits : (old new : Run) → IsToldAlike old new → commits_so_far old ≡ commits_so_far new
-alike_commits old new alike =
-    ap (λ (s : List Line). commits_of_run s old.events.items) (ap (λ s. s.now) (sym alike.script)) ∙ ap (commits_of_run new.script.now) (sym alike.events)
+module _ {D : Type 0} (g : Ghosts D) (only_now : (disk : D) (c : Image) → g.left_since disk (g.moment disk) c → g.may_leave disk c) (j : Journal D) (old new : Run) (ready : IsUnderWay g j old)
+    (script : new.script ≡ old.script) where
+  -- nothing is answered
+  pub step_refused : new.events.items ≡ old.events.items → new.acks.items ≡ old.acks.items → IsStep g old new j j
+  step_refused events acks =
+      let same : commits_so_far new ≡ commits_so_far old =
+          ap (λ (s : List Line). commits_of_run s new.events.items) (ap (λ s. s.now) script) ∙ ap (commits_of_run old.script.now) events in
+      record {
+        script = script;
+        tells =
+            subst (λ (l : List Ack). Tells new.script.now new.events.items l) (sym acks)
+            (subst (λ (es : List Event). Tells new.script.now es old.acks.items) (sym events)
+            (subst (λ (s : List Line). Tells s old.events.items old.acks.items) (ap (λ s. s.now) (sym script)) (answered_tells ready.records old ready.answered)));
+        extends = extends_same (commits_so_far old) (commits_so_far new) (sym same);
+        images = λ told none c left. subst (λ (cs : List Changes). ShowsAcked cs old.acks.items c) (sym same) (ready_now g j old ready told none c (only_now j.writer.disk c left));
+        opened = refl;
+        frame = goes_on_none g j.writer.disk;
+      }
 
-pub alike_tells : (old new : Run) → IsToldAlike old new → Tells old.script.now old.events.items old.acks.items → Tells new.script.now new.events.items new.acks.items
-alike_tells old new alike tells =
-    subst (λ (l : List Ack). Tells new.script.now new.events.items l) (sym alike.acks)
-    (subst (λ (es : List Event). Tells new.script.now es old.acks.items) (sym alike.events)
-    (subst (λ (s : List Line). Tells s old.events.items old.acks.items) (ap (λ s. s.now) (sym alike.script)) tells))
+  -- a get is answered
+  pub step_answered : IsAnswered ready.records new → new.acks.items ≡ old.acks.items → IsStep g old new j j
+  step_answered answered acks =
+      let next : IsUnderWay g j new = record { records = ready.records; answered = answered; written = ready.written } in
+      record {
+        script = script;
+        tells = answered_tells ready.records new answered;
+        extends = extends_same (commits_so_far old) (commits_so_far new) (ready.answered.commits ∙ sym answered.commits);
+        images = λ told none c left. subst (λ (l : List Ack). ShowsAcked (commits_so_far new) l c) acks (ready_now g j new next told none c (only_now j.writer.disk c left));
+        opened = refl;
+        frame = goes_on_none g j.writer.disk;
+      }
 
 -- ---- the start and the end
 
@@ -284,3 +316,6 @@ answered_completes rs r a done =
 -- without a record no put is shown
 pub none_shown : (c : Image) (commits : List Changes) → HoldsOnly 1 (entries c) [] → ShowsCommits commits c
 none_shown c commits holds = (0, 0, records_show 1 c [] [] 1 commits commits log_start refl holds)
+
+pub none_acked : (c : Image) (commits : List Changes) (acks : List Ack) → acks ≡ [] → HoldsOnly 1 (entries c) [] → ShowsAcked commits acks c
+none_acked c commits acks none holds = subst (λ (l : List Ack). ShowsAcked commits l c) (sym none) (0, 0, refl, omega arith, records_show 1 c [] [] 1 commits commits log_start refl holds)

@@ -1,14 +1,21 @@
 -- What a run prints is its transcript with a last line, or that line alone, and what a sink took of it.
-use Rattle.std.proofs.Common.{◌≡◌, ◌∙◌, ap, sym, true, false, Bool, cond, List, [], ◌∷◌, ◌++◌, append_assoc}
+use Rattle.std.proofs.Common.{◌≡◌, ◌∙◌, ◌⊎◌, inl, inr, ap, sym, refl, subst, ℕ, true, false, Bool, cond, List, [], ◌∷◌, ◌++◌, append_assoc, arith, IsTrue}
 use Rattle.std.specs.Prelude.{flat_map, Result, Ok, Err, OnOk}
 use Rattle.frs_history.specs.declared.command.Line.{Line}
 use Rattle.frs_history.specs.declared.event.Ack.{Ack}
 use Rattle.frs_history.specs.declared.event.Event.{Event}
+use Rattle.frs_disk.specs.declared.disk.Fault.{Fault}
+use Rattle.frs_disk.specs.declared.disk.Fault.TheVariants as faults
+use Rattle.frs_disk.specs.declared.outside.Sink.{Ghosts}
+use Rattle.frs_disk.specs.Disk.{HasCause, Rose}
 use Rattle.frs_disk.specs.Outside.{AddsPartOf}
 use Rattle.frs_text.specs.Text.{Text, event_line, ack_line, transcript}
-use Rattle.frs_engine.specs.declared.report.Ending.{Ending}
+use Rattle.frs_engine.specs.declared.ending.Ending.{Ending}
+use Rattle.frs_engine.specs.declared.status.Status.{Status}
+use Rattle.frs_engine.specs.declared.status.Status.TheVariants as status
 use Rattle.frs_engine.specs.Endings.{last_line_of, has_transcript, text_of}
-use Rattle.frs_engine.specs.Runs.{Prints, PrintsAll}
+use Rattle.frs_engine.specs.Reports.{Prints, PrintsAll, Answers, IsReported}
+use Rattle.frs_engine.specs.Statuses.{code_of, status_unprinted, status_after}
 
 pub alone_text : (e : Ending) (script : List Line) (events : List Event) (acks : List Ack) → has_transcript e ≡ false → text_of e script events acks ≡ last_line_of e
 alone_text e script events acks alone = ap (λ (b : Bool). cond b (transcript (script ∷ []) events acks (last_line_of e)) (last_line_of e)) alone
@@ -21,6 +28,9 @@ pub run_text : (e : Ending) (script : List Line) (events : List Event) (acks : L
 run_text e script events acks more = ap (λ (b : Bool). cond b (transcript (script ∷ []) events acks (last_line_of e)) (last_line_of e)) more
 
 -- ---- what a sink took
+
+pub whole_prints : (text before after : Text) → AddsPartOf text before after → Prints text before after
+whole_prints text before after part = record { written = part.0; rest = part.1; appended = part.2; front = part.3 }
 
 -- a part of the text alone
 pub part_prints : (text whole before after : Text) → whole ≡ text → AddsPartOf text before after → Prints whole before after
@@ -48,13 +58,57 @@ pub both_print : (first last whole before middle after : Text) → whole ≡ fir
 both_print first last whole before middle after is all then =
     then ∙ ap (λ (t : Text). t ++ last) all ∙ append_assoc before first last ∙ ap (λ (t : Text). before ++ t) (sym is)
 
-pub on_ok_then : {V E P Q : Type 0} (r : Result V E) → (P → Q) → OnOk r P → OnOk r Q
-on_ok_then (Ok v) f p = f p
-on_ok_then (Err e) f p = p
-
 pub said_same : (scripts : List (List Line)) (ev events : List Event) (ac acks : List Ack) (script : List Line) → scripts ≡ script ∷ [] → ev ≡ events → ac ≡ acks
     → flat_map (event_line scripts) ev ++ flat_map ack_line ac ≡ said script events acks
 said_same scripts ev events ac acks script is_script is_events is_acks =
     ap (λ (s : List (List Line)). flat_map (event_line s) ev ++ flat_map ack_line ac) is_script
     ∙ ap (λ (es : List Event). flat_map (event_line (script ∷ [])) es ++ flat_map ack_line ac) is_events
     ∙ ap (λ (a : List Ack). flat_map (event_line (script ∷ [])) events ++ flat_map ack_line a) is_acks
+
+-- ---- the status that is answered
+
+unprinted : (decided : Status) (before now : ℕ) → Rose before now → Answers (code_of decided) (code_of (status_unprinted decided)) before now
+unprinted status.Done before now rose = inr (inl (refl, refl, rose))
+unprinted status.WrongWords before now rose = inl refl
+unprinted status.WrongLine before now rose = inl refl
+unprinted status.DiskStop before now rose = inl refl
+unprinted status.WrongStore before now rose = inl refl
+unprinted status.UnreadFile before now rose = inl refl
+unprinted status.SinkStop before now rose = inl refl
+unprinted status.Limit before now rose = inl refl
+unprinted status.MemoryStop before now rose = inl refl
+unprinted status.Later before now rose = inl refl
+
+unprinted_not_zero : (decided : Status) → code_of (status_unprinted decided) ≡ 0 → ⊥
+unprinted_not_zero status.Done is = omega (arith, is)
+unprinted_not_zero status.WrongWords is = omega (arith, is)
+unprinted_not_zero status.WrongLine is = omega (arith, is)
+unprinted_not_zero status.DiskStop is = omega (arith, is)
+unprinted_not_zero status.WrongStore is = omega (arith, is)
+unprinted_not_zero status.UnreadFile is = omega (arith, is)
+unprinted_not_zero status.SinkStop is = omega (arith, is)
+unprinted_not_zero status.Limit is = omega (arith, is)
+unprinted_not_zero status.MemoryStop is = omega (arith, is)
+unprinted_not_zero status.Later is = omega (arith, is)
+
+module _ {S V : Type 0} (g : Ghosts S) (text : Text) (decided : Status) (number : ℕ) (old new : S) where
+  pub is_reported : (printed : Result V Fault) → number ≡ code_of (status_after decided printed) → HasCause (g.faults old) (g.faults new) printed → (IsTrue (g.tells old) → Prints text (g.written old) (g.written new))
+      → OnOk printed (IsTrue (g.tells old) → PrintsAll text (g.written old) (g.written new)) → IsReported g text (code_of decided) number old new
+  is_reported (Ok v) is cause part all = record {
+    answers = inl is;
+    prints = part;
+    prints_all = λ told six nine rose. all told;
+    untroubled = λ zero. cause;
+  }
+  is_reported (Err faults.Memory) is cause part all = record {
+    answers = inr (inr is);
+    prints = part;
+    prints_all = λ told six nine rose. absurd (nine is);
+    untroubled = λ zero. cause;
+  }
+  is_reported (Err faults.Failed) is cause part all = record {
+    answers = subst (λ (n : ℕ). Answers (code_of decided) n (g.faults old) (g.faults new)) (sym is) (unprinted decided (g.faults old) (g.faults new) cause.1);
+    prints = part;
+    prints_all = λ told six nine rose. absurd (rose cause.1);
+    untroubled = λ zero. absurd (unprinted_not_zero decided (sym is ∙ zero));
+  }

@@ -1,16 +1,23 @@
 -- How a run ends, before anything is printed, and what is printed then.
-use Rattle.std.specs.Prelude.{ℕ, Bool, true, false, List, [], ◌∷◌, Option, Some, None, Result, codes, decimal, if◌then◌else◌}
+use Rattle.std.specs.Prelude.{ℕ, Bool, true, false, List, [], ◌∷◌, Option, Some, None, Result, if◌then◌else◌}
 use Rattle.frs_disk.specs.declared.disk.Fault.{Fault}
 use Rattle.frs_disk.specs.declared.disk.Fault.TheVariants as faults
 use Rattle.frs_history.specs.declared.command.Line.{Line}
 use Rattle.frs_history.specs.declared.event.Ack.{Ack}
 use Rattle.frs_history.specs.declared.event.Event.{Event}
 use Rattle.frs_text.specs.Scripts.{script_of, up_to}
-use Rattle.frs_text.specs.Text.{Text, line, transcript}
+use Rattle.frs_text.specs.Text.{Text, transcript}
+use Rattle.frs_text.specs.LastLines.{last_line}
+use Rattle.frs_text.specs.declared.last_line.LastLine.{LastLine}
+use Rattle.frs_text.specs.declared.last_line.LastLine.TheVariants as last
 use Rattle.frs_text.specs.declared.script_fault.ScriptFault.{ScriptFault}
 use Rattle.frs_text.specs.declared.script_fault.ScriptFault.TheVariants as script
-use Rattle.frs_engine.specs.declared.report.Ending.{Ending}
-use Rattle.frs_engine.specs.declared.report.Ending.TheVariants.{Closed, Bad, Long, Disk, Unread, Past, Crowded, Memory, Later}
+use Rattle.frs_engine.specs.declared.ending.Ending.{Ending}
+use Rattle.frs_engine.specs.declared.ending.Ending.TheVariants.{Closed, Bad, Long, Disk, Unread, Past, Crowded, Memory, Later}
+use Rattle.frs_engine.specs.declared.outcome.Outcome.{Outcome}
+use Rattle.frs_engine.specs.declared.status.Status.{Status}
+use Rattle.frs_engine.specs.declared.status.Status.TheVariants as status
+use Rattle.frs_engine.specs.Statuses.{code_of}
 
 -- ---- scripts
 
@@ -33,32 +40,36 @@ ending_of_stop (Some faults.Memory) = Memory
 
 -- ---- statuses and texts
 
+abbrev pub ending_status : Ending → Status
+ending_status Closed = status.Done
+ending_status (Bad n) = status.WrongLine
+ending_status (Long n) = status.WrongLine
+ending_status Disk = status.DiskStop
+ending_status Unread = status.UnreadFile
+ending_status (Past n) = status.Limit
+ending_status (Crowded n) = status.Limit
+ending_status Memory = status.MemoryStop
+ending_status Later = status.Later
+
+-- as a number
 abbrev pub status_of : Ending → ℕ
-status_of Closed = 0
-status_of (Bad n) = 2
-status_of (Long n) = 2
-status_of Disk = 3
-status_of Unread = 5
-status_of (Past n) = 8
-status_of (Crowded n) = 8
-status_of Memory = 9
-status_of Later = 10
+status_of e = code_of (ending_status e)
 
--- a line that refuses a line of the one script
-abbrev pub script_line : ℕ → Text → Text
-script_line n why = line (codes "script" ∷ codes "1" ∷ codes "line" ∷ decimal n ∷ why ∷ [])
+-- the last line; the one script and the one file are the first
+abbrev pub last_of : Ending → LastLine
+last_of Closed = last.Closed
+last_of (Bad n) = last.BadScriptLine 1 n
+last_of (Long n) = last.LongScriptLine 1 n
+last_of Disk = last.DiskStop
+last_of Unread = last.UnreadFile 1
+last_of (Past n) = last.ScriptLineLimit 1 n
+last_of (Crowded n) = last.ClientLimit n
+last_of Memory = last.MemoryStop
+last_of Later = last.Later
 
--- its last line
+-- as a text
 abbrev pub last_line_of : Ending → Text
-last_line_of Closed = line (codes "closed" ∷ [])
-last_line_of (Bad n) = script_line n (codes "bad")
-last_line_of (Long n) = script_line n (codes "long")
-last_line_of Disk = line (codes "stopped" ∷ codes "disk" ∷ [])
-last_line_of Unread = line (codes "file" ∷ codes "1" ∷ codes "unread" ∷ [])
-last_line_of (Past n) = script_line n (codes "limit")
-last_line_of (Crowded n) = line (codes "limit" ∷ codes "clients" ∷ decimal n ∷ [])
-last_line_of Memory = line (codes "stopped" ∷ codes "memory" ∷ [])
-last_line_of Later = line (codes "later" ∷ [])
+last_line_of e = last_line (last_of e)
 
 -- something was run, or might have been: the transcript stands before the last line
 abbrev pub has_transcript : Ending → Bool
@@ -69,4 +80,8 @@ has_transcript other = false
 
 -- the whole text
 abbrev pub text_of : Ending → List Line → List Event → List Ack → Text
-text_of e script events acks = if has_transcript e then transcript (script ∷ []) events acks (last_line_of e) else last_line_of e
+text_of e script events acks =
+    if has_transcript e then transcript (script ∷ []) events acks (last_line_of e) else last_line_of e
+
+abbrev pub outcome_text : {D : Type 0} → Outcome D → Text
+outcome_text o = text_of o.ending o.script o.events.items o.acks.items

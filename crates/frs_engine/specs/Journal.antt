@@ -1,11 +1,13 @@
 -- The journal of a store that was empty: what its writer has written, and what a crash leaves of it.
-use Rattle.std.specs.Prelude.{◌≡◌, ◌⊎◌, ℕ, ◌+◌, ◌≤◌, Bool, List, [], ◌∷◌, ◌++◌, length, map, None, Result, Ok, Err, IsTrue}
+use Rattle.std.specs.Prelude.{◌≡◌, ◌⊎◌, ℕ, ◌+◌, ◌≤◌, List, [], ◌∷◌, ◌++◌, length, map, None, Result, Ok, Err, IsTrue}
 use Rattle.std.specs.FinMap.{entries, empty}
 use Rattle.frs_types.specs.declared.record.Record.{Record}
 use Rattle.frs_types.specs.Records.{Log, IsPlaced}
 use Rattle.frs_disk.specs.declared.disk.Fault.{Fault}
 use Rattle.frs_disk.specs.declared.disk.Fault.TheVariants.{Failed, Memory}
-use Rattle.frs_disk.specs.Disk.{Image, Rose, LeftNoFile}
+use Rattle.frs_disk.specs.declared.disk.Disk.{Ghosts}
+use Rattle.frs_disk.specs.Disk.{Image, Rose}
+use Rattle.frs_disk.specs.Frames.{LeftNoFile}
 use Rattle.frs_frame.specs.Spelling.{spelling}
 use Rattle.frs_slots.specs.Views.{AreOfOneRing}
 use Rattle.frs_writer.specs.declared.fault.WriteFault.{WriteFault}
@@ -22,7 +24,7 @@ log_of records = record { first = 1; records = records }
 -- ---- what was written
 
 -- The writer of a store that was empty has taken these records, and all of them are durable.
-pub record HasWritten {D : Type 0} (tells : D → Bool) (reads : D → Image) (may_leave : D → Image → Type 0) (w : WriterView D) (records : List Record) : Type 0 where
+pub record HasWritten {D : Type 0} (g : Ghosts D) (w : WriterView D) (records : List Record) : Type 0 where
   pub first : w.taker.first ≡ 1
   pub taken : w.taker.taken ≡ map spelling records
   pub sure : length records ≤ w.taker.sure
@@ -31,9 +33,10 @@ pub record HasWritten {D : Type 0} (tells : D → Bool) (reads : D → Image) (m
   pub ended : w.ended ≡ None
   pub number : number_of_newest w.segments ≤ length records + 1
   pub noted : (lsn : ℕ) × (w.noted ≡ lsn ∷ []) × (lsn ≤ length records)
-  pub told : tells w.disk ≡ tells w.opened
-  pub opened : IsTrue (tells w.opened) → reads w.opened ≡ empty
-  pub holds : IsTrue (tells w.disk) → LeftNoFile may_leave w.opened → IsPlaced (log_of records) → (c : Image) → may_leave w.disk c → HoldsOnly 0 (entries c) records
+  pub told : g.tells w.disk ≡ g.tells w.opened
+  pub opened : IsTrue (g.tells w.opened) → g.reads w.opened ≡ empty
+  pub holds : IsTrue (g.tells w.disk) → LeftNoFile g w.opened → IsPlaced (log_of records)
+      → (c : Image) → g.may_leave w.disk c → HoldsOnly 0 (entries c) records
 
 -- the two ends are of one ring, on which these records were drawn
 pub record HasDrawn {D : Type 0} (j : Journal D) (records : List Record) : Type 0 where
@@ -41,18 +44,18 @@ pub record HasDrawn {D : Type 0} (j : Journal D) (records : List Record) : Type 
   pub drawn : j.drawer.drawn ≡ map spelling records
 
 -- every record that was drawn is durable
-pub record IsWritten {D : Type 0} (tells : D → Bool) (reads : D → Image) (may_leave : D → Image → Type 0) (j : Journal D) (records : List Record) : Type 0 where
-  pub written : HasWritten tells reads may_leave j.writer records
+pub record IsWritten {D : Type 0} (g : Ghosts D) (j : Journal D) (records : List Record) : Type 0 where
+  pub written : HasWritten g j.writer records
   pub drawn : HasDrawn j records
 
 -- one more record was drawn
-pub record IsNext {D : Type 0} (tells : D → Bool) (reads : D → Image) (may_leave : D → Image → Type 0) (j : Journal D) (records : List Record) (r : Record) : Type 0 where
-  pub written : HasWritten tells reads may_leave j.writer records
+pub record IsNext {D : Type 0} (g : Ghosts D) (j : Journal D) (records : List Record) (r : Record) : Type 0 where
+  pub written : HasWritten g j.writer records
   pub drawn : HasDrawn j (records ++ r ∷ [])
 
 -- and the writer knows of it
-pub record IsPublished {D : Type 0} (tells : D → Bool) (reads : D → Image) (may_leave : D → Image → Type 0) (j : Journal D) (records : List Record) (r : Record) : Type 0 where
-  pub next : IsNext tells reads may_leave j records r
+pub record IsPublished {D : Type 0} (g : Ghosts D) (j : Journal D) (records : List Record) (r : Record) : Type 0 where
+  pub next : IsNext g j records r
   pub known : j.writer.taker.known ≡ length records + 1
   pub sure : length records + 1 ≤ j.writer.taker.sure
 

@@ -2,7 +2,9 @@ pub mod Causes
 pub mod Endings
 pub mod Entries
 pub mod Journal
-pub mod Looks
+pub mod PlainJobs
 pub mod Promise
+pub mod Reports
 pub mod Runs
 pub mod Session
+pub mod Statuses

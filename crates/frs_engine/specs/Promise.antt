@@ -15,7 +15,9 @@ use Rattle.frs_history.specs.declared.event.Ack.{Ack}
 use Rattle.frs_history.specs.declared.event.Event.{Event}
 use Rattle.frs_history.specs.Histories.{moments, commits_from, owed_events, Legal, is_active, run}
 use Rattle.frs_history.specs.Machine.{Scripts, State, Changes, start, client, next_line}
+use Rattle.frs_disk.specs.declared.disk.Disk.{Ghosts}
 use Rattle.frs_disk.specs.Disk.{Image}
+use Rattle.frs_disk.specs.Frames.{Within}
 use Rattle.frs_segment.specs.Order.{IsInOrder}
 use Rattle.frs_segment.specs.Segments.{File, WholeSegment, IsSegment, open_files, all_records, follow_from}
 
@@ -47,8 +49,8 @@ owed_acks script events = acks_from 2 (owed_events (moments (script ∷ []) (sta
 abbrev pub is_own : Event → Bool
 is_own e = e.client == 1
 
--- The events are a legal history of the script from no maps, and all of them are the client's. The puts are acknowledged
--- in their order, each once, and all but at most the last.
+-- The events are a legal history of the script from no maps, and all of them are the client's. The puts are
+-- acknowledged in their order, each once, and all but at most the last.
 pub record Tells (script : List Line) (events : List Event) (acks : List Ack) : Type 0 where
   pub legal : Legal [] 0 (script ∷ []) events
   pub own : IsTrue (list_all is_own events)
@@ -99,10 +101,10 @@ abbrev pub are_of_run : List Record → Bool
 are_of_run [] = true
 are_of_run (r ∷ rs) = is_mark r && are_puts rs
 
--- The open files are segments that follow each other from LSN 1 on. Their newest LSN is n, their records are those of one
--- run as far as it has come, lawful from an empty store on, and their j put records, applied oldest first, are the maps
--- after the first j commits, of which there are so many. The files are in order: their numbers are those
--- from 1 on, at most so many are half-made, above the segments, and each but the newest has a record.
+-- The open files are segments that follow each other from LSN 1 on. Their newest LSN is n, their records are those of
+-- one run as far as it has come, lawful from an empty store on, and their j put records, applied oldest first, are the
+-- maps after the first j commits, of which there are so many. The files are in order: their numbers are those from 1
+-- on, at most so many are half-made, above the segments, and each but the newest has a record.
 pub record ShowsPuts (most : ℕ) (files : List File) (commits : List Changes) (n j : ℕ) : Type 0 where
   pub segments : List WholeSegment
   pub each : AllZip IsSegment (open_files files) segments
@@ -121,17 +123,19 @@ ShowsCommits commits image = (n : ℕ) × (j : ℕ) × ShowsPuts 1 (entries imag
 
 -- the same, with every acknowledged put
 abbrev pub ShowsAcked : List Changes → List Ack → Image → Type 0
-ShowsAcked commits acks image = (n : ℕ) × (j : ℕ) × IsTrue (list_all (λ (a : Ack). nat_le a.lsn n) acks) × (length acks ≤ j) × ShowsPuts 1 (entries image) commits n j
+ShowsAcked commits acks image =
+    (n : ℕ) × (j : ℕ) × IsTrue (list_all (λ (a : Ack). nat_le a.lsn n) acks) × (length acks ≤ j)
+    × ShowsPuts 1 (entries image) commits n j
 
--- The same, with every commit, and with both marks: that of the opening, and that of the close behind the puts. No file is
--- half-made.
+-- The same, with every commit, and with both marks: that of the opening, and that of the close behind the puts. No file
+-- is half-made.
 abbrev pub ShowsAll : List Changes → Image → Type 0
 ShowsAll commits image = ShowsPuts 0 (entries image) commits (length commits + 2) (length commits)
 
--- What a crash leaves: `left` are the images of a crash at some moment since the start, `now` those of one at this moment.
-pub record Survives (commits : List Changes) (acks : List Ack) (left now : Image → Type 0) : Type 0 where
-  pub crash : (image : Image) → left image → ShowsCommits commits image
-  pub durable : (image : Image) → now image → ShowsAcked commits acks image
+-- What a crash leaves of a run on this disk: at some moment since its start, and now.
+pub record Survives {D : Type 0} (g : Ghosts D) (commits : List Changes) (acks : List Ack) (old new : D) : Type 0 where
+  pub crash : Within g old new (ShowsCommits commits)
+  pub durable : (image : Image) → g.may_leave new image → ShowsAcked commits acks image
 
 -- What holds besides where nothing stopped the run.
 pub record Completes (script : List Line) (events : List Event) (acks : List Ack) : Type 0 where

@@ -1,67 +1,95 @@
--- What a run answers and prints.
-use Rattle.std.specs.Prelude.{◌≡◌, ◌≢◌, ◌⊎◌, ℕ, ◌-◌, ◌^◌, ◌<◌, ◌≤◌, Bool, ◌&&◌, ◌||◌, ◌==◌, nat_le, length, List, ◌++◌, IsTrue}
+-- What a run answers and prints, and what it leaves.
+use Rattle.std.specs.Prelude.{◌≡◌, ◌≢◌, ◌⊎◌, ℕ, ◌≤◌, ◌&&◌, nat_le, length, List, [], None, IsTrue}
+use Rattle.std.specs.FinMap.{keys}
 use Rattle.frs_history.specs.declared.command.Line.{Line}
 use Rattle.frs_history.specs.declared.event.Ack.{Ack}
 use Rattle.frs_history.specs.declared.event.Event.{Event}
-use Rattle.frs_disk.specs.Disk.{Image, Keeps, Rose, Within}
-use Rattle.frs_text.specs.Text.{Text}
+use Rattle.frs_disk.specs.declared.disk.Disk as disks
+use Rattle.frs_disk.specs.declared.outside.Files as files
+use Rattle.frs_disk.specs.declared.outside.Sink as sinks
+use Rattle.frs_disk.specs.Disk.{Image, Rose}
+use Rattle.frs_disk.specs.Frames.{LeftNoFile, OnlyReads}
 use Rattle.frs_text.specs.declared.plan.RunPlan.{RunPlan}
 use Rattle.frs_text.specs.declared.plan.RunPlan.TheVariants.{Scripts, Demo}
-use Rattle.frs_engine.specs.Promise.{Tells, Completes, Survives, ShowsAll, commits_of_run}
+use Rattle.frs_text.specs.declared.script_fault.ScriptFault.{ScriptFault}
+use Rattle.frs_text.specs.declared.script_fault.ScriptFault.TheVariants.{BadLine, TooLong, TooMany}
+use Rattle.frs_engine.specs.declared.ending.Ending.{Ending}
+use Rattle.frs_engine.specs.declared.ending.Ending.TheVariants.{Crowded}
+use Rattle.frs_engine.specs.Causes.{Handed, bytes_handed, one_file, ending_of_plan, HasOthers, HasFault, SpellsScript, ListsFiles, IsForLater, IsCause}
+use Rattle.frs_engine.specs.Endings.{ending_by, status_of, text_of}
+use Rattle.frs_engine.specs.Promise.{commits_of_run, Tells, Survives, Completes, ShowsAll}
+use Rattle.frs_engine.specs.Reports.{IsReported, IsSteady}
+use Rattle.frs_engine.specs.Statuses.{is_status}
 
--- ---- the text
-
--- what was written is a front of the text
-pub record Prints (text before after : Text) : Type 0 where
-  pub written : Text
-  pub rest : Text
-  pub appended : after ≡ before ++ written
-  pub front : written ++ rest ≡ text
-
--- and all of it
-abbrev pub PrintsAll : Text → Text → Text → Type 0
-PrintsAll text before after = after ≡ before ++ text
-
--- ---- the run
-
--- The status that was decided is answered, unless the sink failed after a run that was whole, or memory ran out at it.
-abbrev pub Answers : ℕ → ℕ → ℕ → ℕ → Type 0
-Answers decided status before now = (status ≡ decided) ⊎ ((status ≡ 6) × (decided ≡ 0) × Rose before now) ⊎ (status ≡ 9)
-
--- What was printed of the text, and which status was answered. All of the text was printed unless the sink failed, or
--- memory ran out.
-pub record IsReported (text : Text) (decided status : ℕ) (told : Bool) (before after : Text) (faults_before faults : ℕ) : Type 0 where
-  pub answers : Answers decided status faults_before faults
-  pub prints : IsTrue told → Prints text before after
-  pub prints_all : IsTrue told → status ≢ 6 → status ≢ 9 → (Rose faults_before faults → ⊥) → PrintsAll text before after
-
--- The disk was at most looked at: what is read stays, no removal is new, and a crash leaves at no moment what it couldn't
--- leave before.
-pub record IsOnlyLookedAt {D : Type 0} (reads : D → Image) (may_leave : D → Image → Type 0) (moment : D → ℕ) (left_since : D → ℕ → Image → Type 0) (removing : D → ℕ → Type 0) (old new : D) : Type 0 where
-  pub seen : reads new ≡ reads old
-  pub pending : (n : ℕ) → removing new n → removing old n
-  pub crash : Keeps (may_leave old) (may_leave new)
-  pub within : Within moment left_since old new (may_leave old)
-
--- What a run of the script did, and with which status it ended. `empty` is the premise that the disk tells what it holds
--- and that a crash at the start would have left no file; `left` and `now` are the images of a crash since then and at the
--- end.
-pub record IsRun (decided : ℕ) (empty : Type 0) (left now : Image → Type 0) (script : List Line) (events : List Event) (acks : List Ack) : Type 0 where
-  pub tells : Tells script events acks
-  pub survives : empty → Survives (commits_of_run script events) acks left now
-  pub completes : decided ≡ 0 → Completes script events acks
-  pub shows_all : decided ≡ 0 → empty → (image : Image) → now image → ShowsAll (commits_of_run script events) image
-
--- a count didn't rise, and doesn't stand at its type's end
-abbrev pub IsSteady : ℕ → ℕ → Type 0
-IsSteady before now = (now ≡ before) × (before < 2 ^ 64 - 1)
+-- ---- what is asked for
 
 -- the plan names a file, or has the numbers of a demo within their limits
 abbrev pub HasWork : RunPlan → Type 0
 HasWork (Scripts names) = 1 ≤ length names
 HasWork (Demo clients count) = IsTrue (nat_le 1 clients && nat_le clients 64 && nat_le 1 count && nat_le count 3000)
 
--- The statuses: all was done; a line of a script is refused; the disk failed; a file wasn't read; the sink failed; a limit
--- was met; memory ran out; not yet.
-abbrev pub is_status : ℕ → Bool
-is_status n = (n == 0) || (n == 2) || (n == 3) || (n == 5) || (n == 6) || (n == 8) || (n == 9) || (n == 10)
+-- ---- the disk
+
+module _ {D : Type 0} (g : disks.Ghosts D) where
+  -- What a run of the script did on this disk, and with which status it ended. Of a crash something is said where the
+  -- disk tells what it holds and a crash at the start would have left no file.
+  pub record IsRun (decided : ℕ) (old new : D) (script : List Line) (es : List Event) (acks : List Ack) : Type 0 where
+    pub tells : Tells script es acks
+    pub survives : IsTrue (g.tells old) → LeftNoFile g old → Survives g (commits_of_run script es) acks old new
+    pub completes : decided ≡ 0 → Completes script es acks
+    pub shows_all : decided ≡ 0 → IsTrue (g.tells old) → LeftNoFile g old
+        → (image : Image) → g.may_leave new image → ShowsAll (commits_of_run script es) image
+
+  -- Where a script is refused, a file isn't read or a limit is met, the disk is as it was. A disk that lists files is
+  -- at most looked at, and so is each where the run isn't built yet.
+  pub record LeavesAlone (old new : D) (status : ℕ) : Type 0 where
+    pub unread : (status ≡ 2) ⊎ (status ≡ 5) ⊎ (status ≡ 8) → new ≡ old
+    pub looked : (status ≡ 10) ⊎ (IsTrue (g.tells old) × ListsFiles g old) → OnlyReads g old new
+
+-- ---- the run
+
+module _ {D F S : Type 0} (d : disks.Ghosts D) (f : files.Ghosts F) (s : sinks.Ghosts S) (h : Handed D F) (sink sink_after : S) (status : ℕ)
+  where
+  -- What was run is a legal history of the script, every put in it but at most the last is acknowledged, and a crash at
+  -- any moment leaves the maps after some of its commits, with all acknowledged ones. What was printed is its text.
+  pub record WasRun : Type 0 where
+    pub ending : Ending
+    pub script : List Line
+    pub events : List Event
+    pub acks : List Ack
+    pub run : IsRun d (status_of ending) h.disk h.disk_after script events acks
+    pub cause : IsCause d f h script events ending
+    pub several : one_file h.plan ≡ None → ending ≡ ending_of_plan h.plan
+    pub reported : IsReported s (text_of ending script events acks) (status_of ending) status sink sink_after
+
+  -- Each status has its cause.
+  pub record HasCauses : Type 0 where
+    pub known : IsTrue (is_status status)
+    pub disk_steady : status ≢ 3 → status ≢ 9 → d.faults h.disk_after ≡ d.faults h.disk
+    pub files_steady : status ≢ 5 → status ≢ 9 → f.faults h.files_after ≡ f.faults h.files
+    pub untroubled : status ≡ 0
+        → (d.faults h.disk_after ≡ d.faults h.disk) × (f.faults h.files_after ≡ f.faults h.files)
+        × (s.faults sink_after ≡ s.faults sink)
+    pub bad : status ≡ 2 → IsTrue (f.tells h.files) → (line : ℕ)
+        × (HasFault (bytes_handed f h) (BadLine line) ⊎ HasFault (bytes_handed f h) (TooLong line))
+    pub disk_failed : status ≡ 3 → Rose (d.faults h.disk) (d.faults h.disk_after)
+    pub files_failed : status ≡ 5 → Rose (f.faults h.files) (f.faults h.files_after)
+    pub sink_failed : status ≡ 6 → Rose (s.faults sink) (s.faults sink_after)
+    pub limited : status ≡ 8 → ((n : ℕ) × (one_file h.plan ≡ None) × (ending_of_plan h.plan ≡ Crowded n))
+        ⊎ (IsTrue (f.tells h.files) → (line : ℕ) × HasFault (bytes_handed f h) (TooMany line))
+    pub later : status ≡ 10 → IsTrue (f.tells h.files) → IsTrue (d.tells h.disk) → IsForLater d f h
+
+  -- What can't be run is answered so, unless a count rose before it was known, or memory ran out; what can be run is
+  -- run to its end, unless a count rose or memory ran out.
+  pub record IsComplete : Type 0 where
+    pub several : one_file h.plan ≡ None → (status ≡ status_of (ending_of_plan h.plan)) ⊎ (status ≡ 9)
+    pub refused : IsTrue (f.tells h.files) → (fault : ScriptFault) → HasFault (bytes_handed f h) fault
+        → (status ≡ status_of (ending_by fault)) ⊎ (status ≡ 9) ⊎ (status ≡ 5)
+    pub others : IsTrue (f.tells h.files) → HasOthers (bytes_handed f h)
+        → (status ≡ 10) ⊎ (status ≡ 9) ⊎ (status ≡ 5)
+    pub for_later : IsTrue (f.tells h.files) → IsTrue (d.tells h.disk) → IsForLater d f h
+        → (status ≡ 10) ⊎ (status ≡ 9) ⊎ (status ≡ 3) ⊎ (status ≡ 5)
+    pub whole : IsTrue (f.tells h.files) → IsTrue (d.tells h.disk) → (script : List Line)
+        → SpellsScript (bytes_handed f h) script → keys (d.reads h.disk) ≡ []
+        → IsSteady (d.faults h.disk) (d.faults h.disk_after) → IsSteady (f.faults h.files) (f.faults h.files_after)
+        → IsSteady (s.faults sink) (s.faults sink_after) → (status ≡ 0) ⊎ (status ≡ 9)

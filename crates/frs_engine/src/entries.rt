@@ -20,8 +20,12 @@ fn order(id: &MapId, key: &Key, entry: &Entry) -> Ordering
 // The index of the entry at a place, or that of the first entry behind it.
 fn position_of(entries: &[Entry], id: &MapId, key: &Key) -> Result<usize, usize>
     ensures { MatchResult result
-        (λ at. (at < length entries.now) × ((h : StoredValue) → put place_cmp (id.now, key.now) h (table entries.now) ≡ slice_set (table entries.now) at ((id.now, key.now), h)))
-        (λ at. (at ≤ length entries.now) × ((h : StoredValue) → put place_cmp (id.now, key.now) h (table entries.now) ≡ insert (table entries.now) at ((id.now, key.now), h))) }
+        (λ at. (at < length entries.now)
+            × ((h : StoredValue) → put place_cmp (id.now, key.now) h (table entries.now)
+            ≡ slice_set (table entries.now) at ((id.now, key.now), h)))
+        (λ at. (at ≤ length entries.now)
+            × ((h : StoredValue) → put place_cmp (id.now, key.now) h (table entries.now)
+            ≡ insert (table entries.now) at ((id.now, key.now), h))) }
 {
     for (at, entry) in entries.iter().enumerate() {
         match order(id, key, entry) {
@@ -35,7 +39,8 @@ fn position_of(entries: &[Entry], id: &MapId, key: &Key) -> Result<usize, usize>
 
 /// The entry at a place, if there is one.
 pub(crate) fn find_entry<'a>(entries: &'a [Entry], id: &MapId, key: &Key) -> Option<&'a Entry>
-    ensures { option_map held_of (option_copied result) ≡ find place_cmp (id.now, key.now) (table entries.now) }
+    ensures { option_map held_of (option_copied result)
+        ≡ find place_cmp (id.now, key.now) (table entries.now) }
 {
     let mut rest = entries;
     while let [entry, after @ ..] = rest {
@@ -49,7 +54,8 @@ pub(crate) fn find_entry<'a>(entries: &'a [Entry], id: &MapId, key: &Key) -> Opt
 
 /// Sets the entry at its place, which may be new.
 pub(crate) fn set_entry(entries: &mut Vec<Entry>, entry: Entry) -> Result<(), NoMemory>
-    ensures set { OnOk result (table entries.new.items ≡ put place_cmp (place_in entry) (held_of entry) (table entries.old.items)) }
+    ensures set { OnOk result (table entries.new.items
+        ≡ put place_cmp (place_in entry) (held_of entry) (table entries.old.items)) }
     ensures kept { OnErr result (entries.new.items ≡ entries.old.items) }
 {
     match position_of(entries, &entry.id, &entry.key) {

@@ -3,7 +3,7 @@ ghost use Rattle.std.specs.Prelude.{◌≡◌, ◌+◌, ◌<◌, ◌^◌, ◌++�
 ghost use Rattle.std.specs.FinMap.{entries, empty};
 ghost use Rattle.frs_types.specs.declared.record.Record.{Record};
 ghost use Rattle.frs_types.specs.Records.{IsPlaced};
-ghost use Rattle.frs_disk.specs.Disk.{Passes, Within, LeftNoFile};
+ghost use Rattle.frs_disk.specs.Frames.{LeftNoFile, Within, GoesOn};
 ghost use Rattle.frs_frame.specs.Spelling.{spelling};
 ghost use Rattle.frs_segment.specs.Stores.{IsFound};
 ghost use Rattle.frs_slots.specs.Views.{AreOfOneRing};
@@ -74,15 +74,16 @@ impl<D: Disk> Journal<D> {
     pub(crate) fn open(alloc: Global, disk: D) -> Result<Journal<D>, NotOpened<D>>
         requires empty { IsTrue (D.tells disk) → D.reads disk ≡ empty }
         requires not_removed { IsTrue (D.tells disk) → (n : ℕ) → D.removing disk n → ⊥ }
-        ensures written { IfOk result (λ j. IsWritten D.tells D.reads D.may_leave j []) }
+        ensures written { IfOk result (λ j. IsWritten D.Disk j []) }
         ensures opened { IfOk result (λ j. j.writer.opened ≡ disk) }
-        ensures images { IfOk result (λ j. IsTrue (D.tells disk) → LeftNoFile D.may_leave disk
-            → Within D.moment D.left_since disk j.writer.disk (λ c. HoldsOnly 1 (entries c) [])) }
-        ensures images_refused { IfErr result (λ e. IsTrue (D.tells disk) → LeftNoFile D.may_leave disk
-            → Within D.moment D.left_since disk e.disk (λ c. HoldsOnly 1 (entries c) [])) }
-        ensures told { (IfOk result (λ j. D.tells j.writer.disk ≡ D.tells disk)) × IfErr result (λ e. D.tells e.disk ≡ D.tells disk) }
-        ensures time { (IfOk result (λ j. Passes D.moment D.left_since disk j.writer.disk)) × IfErr result (λ e. Passes D.moment D.left_since disk e.disk) }
-        ensures cause { (IfOk result (λ j. D.faults j.writer.disk ≡ D.faults disk)) × IfErr result (λ e. FaultHasCause (D.faults disk) (D.faults e.disk) e.fault) }
+        ensures images { IfOk result (λ j. IsTrue (D.tells disk) → LeftNoFile D.Disk disk
+            → Within D.Disk disk j.writer.disk (λ c. HoldsOnly 1 (entries c) [])) }
+        ensures images_refused { IfErr result (λ e. IsTrue (D.tells disk) → LeftNoFile D.Disk disk
+            → Within D.Disk disk e.disk (λ c. HoldsOnly 1 (entries c) [])) }
+        ensures frame { (IfOk result (λ j. GoesOn D.Disk disk j.writer.disk))
+            × IfErr result (λ e. GoesOn D.Disk disk e.disk) }
+        ensures cause { (IfOk result (λ j. D.faults j.writer.disk ≡ D.faults disk))
+            × IfErr result (λ e. FaultHasCause (D.faults disk) (D.faults e.disk) e.fault) }
     {
         let Ok((drawer, taker)) = ring(alloc, CAPACITY, 1) else {
             return Err(NotOpened {
@@ -102,7 +103,8 @@ impl<D: Disk> Journal<D> {
 
     /// The LSN of the next record.
     pub(crate) fn next(&self) -> u64
-        ensures { (records : List Record) → IsWritten D.tells D.reads D.may_leave self.now records → result ≡ length records + 1 }
+        ensures { (records : List Record) → IsWritten D.Disk self.now records
+            → result ≡ length records + 1 }
     {
         self.drawer.next()
     }
@@ -110,12 +112,15 @@ impl<D: Disk> Journal<D> {
     // Draws the next LSN for a record. Where the ring is full by what the drawer knows, all of its records are written,
     // and it is made free again.
     fn draw(&mut self, alloc: Global, framed: Framed) -> Result<Slip, NoMemory>
-        requires written { (records : List Record) × IsWritten D.tells D.reads D.may_leave self.old records }
+        requires written { (records : List Record) × IsWritten D.Disk self.old records }
         requires room { length self.old.drawer.drawn < 2 ^ 40 }
-        ensures drawn { IfOk result (λ slip. (records : List Record) (r : Record) → IsWritten D.tells D.reads D.may_leave self.old records → framed ≡ spelling r
-            → IsNext D.tells D.reads D.may_leave self.new records r × (slip.lsn ≡ length records + 1)) }
-        ensures of_ring { IfOk result (λ slip. (slip.ring ≡ self.new.writer.taker.ring) × AreOfOneRing self.new.drawer self.new.writer.taker) }
-        ensures disk { (self.new.writer.disk ≡ self.old.writer.disk) × (self.new.writer.opened ≡ self.old.writer.opened) }
+        ensures drawn { IfOk result (λ slip. (records : List Record) (r : Record)
+            → IsWritten D.Disk self.old records → framed ≡ spelling r
+            → IsNext D.Disk self.new records r × (slip.lsn ≡ length records + 1)) }
+        ensures of_ring { IfOk result (λ slip. (slip.ring ≡ self.new.writer.taker.ring)
+            × AreOfOneRing self.new.drawer self.new.writer.taker) }
+        ensures disk { (self.new.writer.disk ≡ self.old.writer.disk)
+            × (self.new.writer.opened ≡ self.old.writer.opened) }
     {
         let NoRoom { framed, .. } = match self.drawer.draw(framed) {
             Ok(slip) => return Ok(slip),
@@ -132,9 +137,11 @@ impl<D: Disk> Journal<D> {
     fn publish(&mut self, slip: Slip)
         requires of_ring { slip.ring ≡ self.old.writer.taker.ring }
         requires one_ring { AreOfOneRing self.old.drawer self.old.writer.taker }
-        ensures published { (records : List Record) (r : Record) → IsNext D.tells D.reads D.may_leave self.old records r → slip.lsn ≡ length records + 1
-            → IsPublished D.tells D.reads D.may_leave self.new records r }
-        ensures disk { (self.new.writer.disk ≡ self.old.writer.disk) × (self.new.writer.opened ≡ self.old.writer.opened) }
+        ensures published { (records : List Record) (r : Record)
+            → IsNext D.Disk self.old records r → slip.lsn ≡ length records + 1
+            → IsPublished D.Disk self.new records r }
+        ensures disk { (self.new.writer.disk ≡ self.old.writer.disk)
+            × (self.new.writer.opened ≡ self.old.writer.opened) }
     {
         self.writer.learn(slip.fill());
         self.writer.meet(&mut self.drawer);
@@ -142,17 +149,20 @@ impl<D: Disk> Journal<D> {
 
     // Writes the record that was published, as a group of its own.
     fn write(&mut self, alloc: Global) -> Result<(), Fault>
-        requires published { (records : List Record) × (r : Record) × IsPublished D.tells D.reads D.may_leave self.old records r }
+        requires published { (records : List Record) × (r : Record)
+            × IsPublished D.Disk self.old records r }
         requires room { length self.old.drawer.drawn < 2 ^ 41 }
-        ensures written { (records : List Record) (r : Record) → IsPublished D.tells D.reads D.may_leave self.old records r
-            → OnOk result (IsWritten D.tells D.reads D.may_leave self.new (records ++ r ∷ [])) }
-        ensures images { (records : List Record) (r : Record) → IsPublished D.tells D.reads D.may_leave self.old records r → IsPlaced (log_of (records ++ r ∷ []))
-            → IsTrue (D.tells self.old.writer.disk) → LeftNoFile D.may_leave self.old.writer.opened
-            → Within D.moment D.left_since self.old.writer.disk self.new.writer.disk (HoldsOneMore records r) }
+        ensures written { (records : List Record) (r : Record)
+            → IsPublished D.Disk self.old records r
+            → OnOk result (IsWritten D.Disk self.new (records ++ r ∷ [])) }
+        ensures images { (records : List Record) (r : Record)
+            → IsPublished D.Disk self.old records r → IsPlaced (log_of (records ++ r ∷ []))
+            → IsTrue (D.tells self.old.writer.disk) → LeftNoFile D.Disk self.old.writer.opened
+            → Within D.Disk self.old.writer.disk self.new.writer.disk (HoldsOneMore records r) }
         ensures opened { self.new.writer.opened ≡ self.old.writer.opened }
-        ensures told { D.tells self.new.writer.disk ≡ D.tells self.old.writer.disk }
-        ensures time { Passes D.moment D.left_since self.old.writer.disk self.new.writer.disk }
-        ensures cause { CallHasCause (D.faults self.old.writer.disk) (D.faults self.new.writer.disk) result }
+        ensures frame { GoesOn D.Disk self.old.writer.disk self.new.writer.disk }
+        ensures cause { CallHasCause (D.faults self.old.writer.disk)
+            (D.faults self.new.writer.disk) result }
     {
         let written = self.writer.write_group(alloc, GROUP);
         // What was taken is a part of what was drawn.
@@ -166,20 +176,23 @@ impl<D: Disk> Journal<D> {
     /// Appends a record. Once it answers Ok the record is durable. Where it is refused the record may be durable or not,
     /// and nothing more is to be appended.
     pub(crate) fn append(&mut self, alloc: Global, framed: Framed) -> Result<(), Fault>
-        requires written { (records : List Record) × IsWritten D.tells D.reads D.may_leave self.old records }
+        requires written { (records : List Record) × IsWritten D.Disk self.old records }
         requires spelled { (r : Record) × (framed ≡ spelling r) }
         requires room { length self.old.drawer.drawn < 2 ^ 40 }
-        ensures written { (records : List Record) (r : Record) → IsWritten D.tells D.reads D.may_leave self.old records → framed ≡ spelling r
-            → OnOk result (IsWritten D.tells D.reads D.may_leave self.new (records ++ r ∷ [])) }
+        ensures written { (records : List Record) (r : Record)
+            → IsWritten D.Disk self.old records → framed ≡ spelling r
+            → OnOk result (IsWritten D.Disk self.new (records ++ r ∷ [])) }
 
         // A crash in the call leaves the records before it, or this one too.
-        ensures images { (records : List Record) (r : Record) → IsWritten D.tells D.reads D.may_leave self.old records → framed ≡ spelling r → IsPlaced (log_of (records ++ r ∷ []))
-            → IsTrue (D.tells self.old.writer.disk) → LeftNoFile D.may_leave self.old.writer.opened
-            → Within D.moment D.left_since self.old.writer.disk self.new.writer.disk (HoldsOneMore records r) }
+        ensures images { (records : List Record) (r : Record)
+            → IsWritten D.Disk self.old records → framed ≡ spelling r
+            → IsPlaced (log_of (records ++ r ∷ []))
+            → IsTrue (D.tells self.old.writer.disk) → LeftNoFile D.Disk self.old.writer.opened
+            → Within D.Disk self.old.writer.disk self.new.writer.disk (HoldsOneMore records r) }
         ensures opened { self.new.writer.opened ≡ self.old.writer.opened }
-        ensures told { D.tells self.new.writer.disk ≡ D.tells self.old.writer.disk }
-        ensures time { Passes D.moment D.left_since self.old.writer.disk self.new.writer.disk }
-        ensures cause { CallHasCause (D.faults self.old.writer.disk) (D.faults self.new.writer.disk) result }
+        ensures frame { GoesOn D.Disk self.old.writer.disk self.new.writer.disk }
+        ensures cause { CallHasCause (D.faults self.old.writer.disk)
+            (D.faults self.new.writer.disk) result }
     {
         let slip = self.draw(alloc, framed)?;
         self.publish(slip);
@@ -188,11 +201,14 @@ impl<D: Disk> Journal<D> {
 
     /// Notes the last record as durable for the client.
     pub(crate) fn acknowledge(&mut self, lsn: u64)
-        requires { (records : List Record) × IsWritten D.tells D.reads D.may_leave self.old records × (lsn ≡ length records) }
-        ensures written { (records : List Record) → IsWritten D.tells D.reads D.may_leave self.old records → IsWritten D.tells D.reads D.may_leave self.new records }
+        requires { (records : List Record) × IsWritten D.Disk self.old records
+            × (lsn ≡ length records) }
+        ensures written { (records : List Record) → IsWritten D.Disk self.old records
+            → IsWritten D.Disk self.new records }
         ensures noted { self.new.writer.noted ≡ lsn ∷ [] }
         ensures drawer { self.new.drawer ≡ self.old.drawer }
-        ensures disk { (self.new.writer.disk ≡ self.old.writer.disk) × (self.new.writer.opened ≡ self.old.writer.opened) }
+        ensures disk { (self.new.writer.disk ≡ self.old.writer.disk)
+            × (self.new.writer.opened ≡ self.old.writer.opened) }
     {
         match self.writer.acknowledge(CLIENT, lsn) {
             Ok(()) => {}

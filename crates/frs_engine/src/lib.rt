@@ -1,22 +1,27 @@
 //! The top calls of the store: they run scripts against a disk and look at one, and carry its promise.
 #![tactic(auto)]
 
+mod ending;
 mod entries;
+mod finding;
 mod journal;
-mod looking;
-mod parsing;
+mod outcome;
+mod plain_job;
+mod plan_script;
 mod report;
 mod run;
 mod session;
+mod status;
 
 pub use frs_text::{FileNames, PlainPlan, RunPlan};
 pub use frs_types::{NoTurn, Turn};
-pub use looking::{Left, frs_plain};
+pub use plain_job::{Left, frs_plain};
 pub use run::{Ended, frs_run};
+pub use status::Status;
 
 #[cfg(test)]
 mod crash_tests;
 #[cfg(test)]
-mod looking_tests;
+mod plain_job_tests;
 #[cfg(test)]
 mod tests;

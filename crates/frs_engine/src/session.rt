@@ -9,35 +9,27 @@ ghost use Rattle.frs_types.specs.Lawful.{StoredValue};
 ghost use Rattle.frs_types.specs.Records.{has_words};
 ghost use Rattle.frs_types.specs.Survivors.{entry_by};
 ghost use Rattle.frs_frame.specs.Spelling.{spelling};
-ghost use Rattle.frs_disk.specs.Disk.{Image, Passes, Within, LeftNoFile};
+ghost use Rattle.frs_disk.specs.Disk.{Image};
+ghost use Rattle.frs_disk.specs.Frames.{LeftNoFile, GoesOn};
 ghost use Rattle.frs_history.specs.declared.command.Command.TheVariants as command;
 ghost use Rattle.frs_history.specs.declared.event.Reply.TheVariants as reply;
 ghost use Rattle.frs_history.specs.Machine.{value_or_none};
+ghost use Rattle.frs_engine.specs.Endings.{ending_of_stop, status_of};
 ghost use Rattle.frs_engine.specs.Entries.{table};
 ghost use Rattle.frs_engine.specs.Journal.{CallHasCause};
-ghost use Rattle.frs_engine.specs.Promise.{has_puts_and_gets, commits_of_run, Tells, Survives, ShowsCommits, ShowsAcked, ShowsAll, Completes};
-ghost use Rattle.frs_engine.specs.Session.{record_drawn, put_drawn, answer_event, IsAnswered, IsUnderWay, HasOneMark, HasNumbersLeft, IsToldAlike, IsFresh, commits_so_far, Extends, StopHasCause};
+ghost use Rattle.frs_engine.specs.Promise.{has_puts_and_gets, ShowsAll, Completes};
+ghost use Rattle.frs_engine.specs.Runs.{IsRun};
+ghost use Rattle.frs_engine.specs.Session.{record_drawn, put_drawn, answer_event, IsAnswered, IsUnderWay, HasOneMark, HasNumbersLeft, IsToldAlike, IsFresh, commits_so_far, IsStep, IsStepDone, IsProgress, HasAnsweredAll, EndHasCause};
 
+use crate::ending::Ending;
 use crate::entries::{find_entry, lowest_of, set_entry};
 use crate::journal::{CLIENT, Journal, NotOpened};
+use crate::outcome::Outcome;
 use frs_disk::{Disk, Fault};
 use frs_frame::{Framed, encode_payload};
-use frs_history::{Ack, Command, Event, Line, Reply, What};
+use frs_history::{Ack, Command, Event, Line, Reply, Script, What};
 use frs_types::{Action, Entry, Key, MapId, NoMemory, Value};
 use std::alloc::Global;
-
-/// What a run did.
-#[derive(Drop)]
-pub(crate) struct Session<D> {
-    /// The disk, as the run left it.
-    pub(crate) disk: D,
-    /// What was answered, in order.
-    pub(crate) events: Vec<Event>,
-    /// Which puts are durable, in order.
-    pub(crate) acks: Vec<Ack>,
-    /// Why it ended before its end.
-    pub(crate) stop: Option<Fault>,
-}
 
 /// A run on its way.
 #[derive(Drop)]
@@ -64,7 +56,8 @@ impl<'a> Run<'a> {
         named: u64,
     ) -> Result<Framed, NoMemory>
         requires { IsTrue (has_words what.now) }
-        ensures { IfOk result (λ framed. framed ≡ spelling (record_drawn (table self.now.entries.items) lsn named what.now)) }
+        ensures { IfOk result (λ framed.
+            framed ≡ spelling (record_drawn (table self.now.entries.items) lsn named what.now)) }
     {
         let mut framed = encode_payload(alloc, what)?;
         framed.patch(0, lowest_of(&self.entries, lsn), named);
@@ -81,11 +74,14 @@ impl<'a> Run<'a> {
         key: &Key,
         value: &Value,
     ) -> Result<Framed, NoMemory>
-        ensures record_is { IfOk result (λ framed. framed ≡ spelling (put_drawn (table self.old.entries.items) lsn id.now key.now value.now)) }
+        ensures record_is { IfOk result (λ framed.
+            framed ≡ spelling (put_drawn (table self.old.entries.items) lsn id.now key.now value.now)) }
         ensures words { IsTrue (has_words (action.Put id.now key.now value.now)) }
         ensures entries { OnOk result (table self.new.entries.items
-            ≡ put place_cmp (id.now, key.now) (record { value = value.now; lsn = lsn }) (table self.old.entries.items)) }
-        ensures events { OnOk result (self.new.events.items ≡ self.old.events.items ++ answer_event line reply.Done ∷ []) }
+            ≡ put place_cmp (id.now, key.now) (record { value = value.now; lsn = lsn })
+            (table self.old.entries.items)) }
+        ensures events { OnOk result (self.new.events.items
+            ≡ self.old.events.items ++ answer_event line reply.Done ∷ []) }
         ensures refused { OnErr result (self.new.events.items ≡ self.old.events.items) }
         ensures acks { self.new.acks.items ≡ self.old.acks.items }
         ensures room { OnOk result (vec_len self.new.acks < vec_capacity self.new.acks) }
@@ -118,7 +114,8 @@ impl<'a> Run<'a> {
 
     // What a get is answered.
     fn reply_of_get(&self, alloc: Global, id: &MapId, key: &Key) -> Result<Reply, NoMemory>
-        ensures { IfOk result (λ r. r ≡ value_or_none (option_map (λ (h : StoredValue). h.value) (find place_cmp (id.now, key.now) (table self.now.entries.items)))) }
+        ensures { IfOk result (λ r. r ≡ value_or_none (option_map (λ (h : StoredValue). h.value)
+            (find place_cmp (id.now, key.now) (table self.now.entries.items)))) }
     {
         match find_entry(&self.entries, id, key) {
             Some(entry) => Ok(Reply::Found {
@@ -138,24 +135,16 @@ impl<'a> Run<'a> {
         key: &Key,
         value: &Value,
     ) -> Result<(), Fault>
-        requires ready { IsUnderWay D.tells D.reads D.may_leave journal.old self.old }
+        requires ready { IsUnderWay D.Disk journal.old self.old }
         requires marks { HasOneMark journal.old self.old }
         requires room { HasNumbersLeft journal.old self.old }
-        requires next { slice_get self.old.script.now self.old.done ≡ Some (record { number = line; command = command.Put id.now key.now value.now }) }
-        ensures ready { OnOk result (IsUnderWay D.tells D.reads D.may_leave journal.new self.new) }
-        ensures marks { OnOk result (HasOneMark journal.new self.new) }
-        ensures drawn { OnOk result (length journal.new.drawer.drawn ≤ length journal.old.drawer.drawn + 1) }
-        ensures done { OnOk result (self.new.done ≡ self.old.done + 1) }
-        ensures script { self.new.script ≡ self.old.script }
+        requires next { slice_get self.old.script.now self.old.done
+            ≡ Some (record { number = line; command = command.Put id.now key.now value.now }) }
+        ensures step { IsStep D.Disk self.old self.new journal.old journal.new }
+        ensures done { OnOk result (IsStepDone D.Disk self.old self.new journal.old journal.new) }
         ensures acks { OnErr result (self.new.acks.items ≡ self.old.acks.items) }
-        ensures tells { Tells self.new.script.now self.new.events.items self.new.acks.items }
-        ensures extends { Extends (commits_so_far self.old) (commits_so_far self.new) }
-        ensures images { IsTrue (D.tells journal.old.writer.disk) → LeftNoFile D.may_leave journal.old.writer.opened
-            → Within D.moment D.left_since journal.old.writer.disk journal.new.writer.disk (ShowsAcked (commits_so_far self.new) self.old.acks.items) }
-        ensures opened { journal.new.writer.opened ≡ journal.old.writer.opened }
-        ensures told { D.tells journal.new.writer.disk ≡ D.tells journal.old.writer.disk }
-        ensures time { Passes D.moment D.left_since journal.old.writer.disk journal.new.writer.disk }
-        ensures cause { CallHasCause (D.faults journal.old.writer.disk) (D.faults journal.new.writer.disk) result }
+        ensures cause { CallHasCause (D.faults journal.old.writer.disk)
+            (D.faults journal.new.writer.disk) result }
     {
         let lsn = journal.next();
         let Ok(framed) = self.prepare_put(alloc, lsn, line, id, key, value) else {
@@ -174,17 +163,15 @@ impl<'a> Run<'a> {
 
     // Writes a mark.
     fn mark<D: Disk>(&self, alloc: Global, journal: &mut Journal<D>) -> Result<(), Fault>
-        requires ready { IsUnderWay D.tells D.reads D.may_leave journal.old self.now }
+        requires ready { IsUnderWay D.Disk journal.old self.now }
         requires marks { (journal.old.drawer.drawn ≡ []) ⊎ HasOneMark journal.old self.now }
         requires room { HasNumbersLeft journal.old self.now }
-        ensures ready { OnOk result (IsUnderWay D.tells D.reads D.may_leave journal.new self.now) }
-        ensures drawn { OnOk result (length journal.new.drawer.drawn ≡ length journal.old.drawer.drawn + 1) }
-        ensures images { IsTrue (D.tells journal.old.writer.disk) → LeftNoFile D.may_leave journal.old.writer.opened
-            → Within D.moment D.left_since journal.old.writer.disk journal.new.writer.disk (ShowsAcked (commits_so_far self.now) self.now.acks.items) }
-        ensures opened { journal.new.writer.opened ≡ journal.old.writer.opened }
-        ensures told { D.tells journal.new.writer.disk ≡ D.tells journal.old.writer.disk }
-        ensures time { Passes D.moment D.left_since journal.old.writer.disk journal.new.writer.disk }
-        ensures cause { CallHasCause (D.faults journal.old.writer.disk) (D.faults journal.new.writer.disk) result }
+        ensures step { IsStep D.Disk self.now self.now journal.old journal.new }
+        ensures ready { OnOk result (IsUnderWay D.Disk journal.new self.now) }
+        ensures drawn { OnOk result (length journal.new.drawer.drawn
+            ≡ length journal.old.drawer.drawn + 1) }
+        ensures cause { CallHasCause (D.faults journal.old.writer.disk)
+            (D.faults journal.new.writer.disk) result }
     {
         let lsn = journal.next();
         let Ok(framed) = self.record_of(alloc, lsn, &Action::Mark, 0) else {
@@ -196,8 +183,10 @@ impl<'a> Run<'a> {
     // Answers a get.
     fn get(&mut self, alloc: Global, line: u32, id: &MapId, key: &Key) -> Result<(), NoMemory>
         requires short { self.old.done < 2 ^ 40 }
-        requires next { slice_get self.old.script.now self.old.done ≡ Some (record { number = line; command = command.Get id.now key.now }) }
-        ensures ready { OnOk result ((rs : List Record) → IsAnswered rs self.old → IsAnswered rs self.new) }
+        requires next { slice_get self.old.script.now self.old.done
+            ≡ Some (record { number = line; command = command.Get id.now key.now }) }
+        ensures ready { OnOk result ((rs : List Record) → IsAnswered rs self.old
+            → IsAnswered rs self.new) }
         ensures done { OnOk result (self.new.done ≡ self.old.done + 1) }
         ensures refused { OnErr result (IsToldAlike self.old self.new) }
         ensures script { self.new.script ≡ self.old.script }
@@ -215,25 +204,16 @@ impl<'a> Run<'a> {
 
     // Answers the next line.
     fn answer_next<D: Disk>(&mut self, alloc: Global, journal: &mut Journal<D>) -> Result<(), Fault>
-        requires ready { IsUnderWay D.tells D.reads D.may_leave journal.old self.old }
+        requires ready { IsUnderWay D.Disk journal.old self.old }
         requires marks { HasOneMark journal.old self.old }
         requires room { HasNumbersLeft journal.old self.old }
         requires next { self.old.done < length self.old.script.now }
         requires commands { IsTrue (has_puts_and_gets self.old.script.now) }
-        ensures ready { OnOk result (IsUnderWay D.tells D.reads D.may_leave journal.new self.new) }
-        ensures marks { OnOk result (HasOneMark journal.new self.new) }
-        ensures drawn { OnOk result (length journal.new.drawer.drawn ≤ length journal.old.drawer.drawn + 1) }
-        ensures done { OnOk result (self.new.done ≡ self.old.done + 1) }
-        ensures script { self.new.script ≡ self.old.script }
+        ensures step { IsStep D.Disk self.old self.new journal.old journal.new }
+        ensures done { OnOk result (IsStepDone D.Disk self.old self.new journal.old journal.new) }
         ensures acks { OnErr result (self.new.acks.items ≡ self.old.acks.items) }
-        ensures tells { Tells self.new.script.now self.new.events.items self.new.acks.items }
-        ensures extends { Extends (commits_so_far self.old) (commits_so_far self.new) }
-        ensures images { IsTrue (D.tells journal.old.writer.disk) → LeftNoFile D.may_leave journal.old.writer.opened
-            → Within D.moment D.left_since journal.old.writer.disk journal.new.writer.disk (ShowsAcked (commits_so_far self.new) self.old.acks.items) }
-        ensures opened { journal.new.writer.opened ≡ journal.old.writer.opened }
-        ensures told { D.tells journal.new.writer.disk ≡ D.tells journal.old.writer.disk }
-        ensures time { Passes D.moment D.left_since journal.old.writer.disk journal.new.writer.disk }
-        ensures cause { CallHasCause (D.faults journal.old.writer.disk) (D.faults journal.new.writer.disk) result }
+        ensures cause { CallHasCause (D.faults journal.old.writer.disk)
+            (D.faults journal.new.writer.disk) result }
     {
         let script = self.script;
         let line = &script[self.done];
@@ -251,26 +231,15 @@ impl<'a> Run<'a> {
 
     // Answers the lines of the script, of which none was answered yet.
     fn answer_all<D: Disk>(&mut self, alloc: Global, journal: &mut Journal<D>) -> Result<(), Fault>
-        requires ready { IsUnderWay D.tells D.reads D.may_leave journal.old self.old }
+        requires ready { IsUnderWay D.Disk journal.old self.old }
         requires start { self.old.done ≡ 0 }
         requires marks { (length journal.old.drawer.drawn ≡ 1) × (self.old.acks.items ≡ []) }
         requires short { length self.old.script.now < 2 ^ 32 }
         requires commands { IsTrue (has_puts_and_gets self.old.script.now) }
-        ensures ready { OnOk result (IsUnderWay D.tells D.reads D.may_leave journal.new self.new) }
-        ensures marks { OnOk result (HasOneMark journal.new self.new) }
-        ensures room { OnOk result (HasNumbersLeft journal.new self.new) }
-        ensures done { OnOk result (self.new.done ≡ length self.new.script.now) }
-        ensures script { self.new.script ≡ self.old.script }
-        ensures tells { Tells self.new.script.now self.new.events.items self.new.acks.items }
-        ensures extends { Extends (commits_so_far self.old) (commits_so_far self.new) }
-        ensures images { IsTrue (D.tells journal.old.writer.disk) → LeftNoFile D.may_leave journal.old.writer.opened
-            → Within D.moment D.left_since journal.old.writer.disk journal.new.writer.disk (ShowsCommits (commits_so_far self.new)) }
-        ensures acked { IsTrue (D.tells journal.old.writer.disk) → LeftNoFile D.may_leave journal.old.writer.opened
-            → (c : Image) → D.may_leave journal.new.writer.disk c → ShowsAcked (commits_so_far self.new) self.new.acks.items c }
-        ensures opened { journal.new.writer.opened ≡ journal.old.writer.opened }
-        ensures told { D.tells journal.new.writer.disk ≡ D.tells journal.old.writer.disk }
-        ensures time { Passes D.moment D.left_since journal.old.writer.disk journal.new.writer.disk }
-        ensures cause { CallHasCause (D.faults journal.old.writer.disk) (D.faults journal.new.writer.disk) result }
+        ensures progress { IsProgress D.Disk self.old self.new journal.old journal.new }
+        ensures done { OnOk result (HasAnsweredAll D.Disk self.new journal.new) }
+        ensures cause { CallHasCause (D.faults journal.old.writer.disk)
+            (D.faults journal.new.writer.disk) result }
     {
         while self.done < self.script.len() {
             self.answer_next(alloc, journal)?;
@@ -281,32 +250,39 @@ impl<'a> Run<'a> {
     // Writes the opening mark, answers the script, and writes the closing mark.
     fn play<D: Disk>(&mut self, alloc: Global, journal: &mut Journal<D>) -> Result<(), Fault>
         requires fresh { IsFresh self.old }
-        requires ready { IsUnderWay D.tells D.reads D.may_leave journal.old self.old }
+        requires ready { IsUnderWay D.Disk journal.old self.old }
         requires none { journal.old.drawer.drawn ≡ [] }
         requires short { length self.old.script.now < 2 ^ 32 }
         requires commands { IsTrue (has_puts_and_gets self.old.script.now) }
-        ensures script { self.new.script ≡ self.old.script }
-        ensures tells { Tells self.new.script.now self.new.events.items self.new.acks.items }
-        ensures images { IsTrue (D.tells journal.old.writer.disk) → LeftNoFile D.may_leave journal.old.writer.opened
-            → Within D.moment D.left_since journal.old.writer.disk journal.new.writer.disk (ShowsCommits (commits_so_far self.new)) }
-        ensures acked { IsTrue (D.tells journal.old.writer.disk) → LeftNoFile D.may_leave journal.old.writer.opened
-            → (c : Image) → D.may_leave journal.new.writer.disk c → ShowsAcked (commits_so_far self.new) self.new.acks.items c }
-        ensures complete { OnOk result (Completes self.new.script.now self.new.events.items self.new.acks.items) }
-        ensures all { OnOk result (IsTrue (D.tells journal.old.writer.disk) → LeftNoFile D.may_leave journal.old.writer.opened
-            → (c : Image) → D.may_leave journal.new.writer.disk c → ShowsAll (commits_so_far self.new) c) }
-        ensures told { D.tells journal.new.writer.disk ≡ D.tells journal.old.writer.disk }
-        ensures time { Passes D.moment D.left_since journal.old.writer.disk journal.new.writer.disk }
-        ensures cause { CallHasCause (D.faults journal.old.writer.disk) (D.faults journal.new.writer.disk) result }
+        ensures progress { IsProgress D.Disk self.old self.new journal.old journal.new }
+        ensures complete { OnOk result (Completes self.new.script.now self.new.events.items
+            self.new.acks.items) }
+        ensures all { OnOk result (IsTrue (D.tells journal.old.writer.disk)
+            → LeftNoFile D.Disk journal.old.writer.opened
+            → (c : Image) → D.may_leave journal.new.writer.disk c
+            → ShowsAll (commits_so_far self.new) c) }
+        ensures cause { CallHasCause (D.faults journal.old.writer.disk)
+            (D.faults journal.new.writer.disk) result }
     {
         self.mark(alloc, journal)?;
         self.answer_all(alloc, journal)?;
         self.mark(alloc, journal)
     }
+
+    // What was answered, and which puts are durable.
+    fn into_answers(self) -> (Vec<Event>, Vec<Ack>)
+        ensures events { result.0 ≡ self.entry.events }
+        ensures acks { result.1 ≡ self.entry.acks }
+    {
+        let Run { events, acks, .. } = self;
+        (events, acks)
+    }
 }
 
 // The entry that a put with this LSN makes.
 fn entry_of(what: Action, lsn: u64) -> Entry
-    requires { (id : List ℕ) × (key : List ℕ) × (value : List ℕ) × (what ≡ action.Put id key value) }
+    requires { (id : List ℕ) × (key : List ℕ) × (value : List ℕ)
+        × (what ≡ action.Put id key value) }
     ensures { entry_by lsn what ≡ Some result }
 {
     match what {
@@ -320,33 +296,35 @@ fn entry_of(what: Action, lsn: u64) -> Entry
     }
 }
 
+// How a run ends that stopped for this.
+fn ending_of(stop: Option<Fault>) -> Ending
+    ensures { result ≡ ending_of_stop stop }
+{
+    match stop {
+        None => Ending::Closed,
+        Some(Fault::Failed) => Ending::Disk,
+        Some(Fault::Memory) => Ending::Memory,
+    }
+}
+
 /// Runs a script of puts and gets by one client, on a store that is empty. At a fault of the disk, or where memory runs
 /// out, it stops, and what was answered and acknowledged until then is kept.
-pub(crate) fn run_script<D: Disk>(alloc: Global, disk: D, script: &[Line]) -> Session<D>
-    requires short { length script.now < 2 ^ 32 }
-    requires commands { IsTrue (has_puts_and_gets script.now) }
+pub(crate) fn run_script<D: Disk>(alloc: Global, disk: D, script: Script) -> Outcome<D>
+    requires short { length script < 2 ^ 32 }
+    requires commands { IsTrue (has_puts_and_gets script) }
     requires empty { IsTrue (D.tells disk) → D.reads disk ≡ empty }
     requires not_removed { IsTrue (D.tells disk) → (n : ℕ) → D.removing disk n → ⊥ }
 
-    // The history is legal, and its puts but at most the last are acknowledged, in order.
-    ensures tells { Tells script.now result.events.items result.acks.items }
-
-    // A crash at any moment leaves the maps after some of the puts, and one now those after every acknowledged put.
-    ensures survives { IsTrue (D.tells disk) → LeftNoFile D.may_leave disk
-        → Survives (commits_of_run script.now result.events.items) result.acks.items (D.left_since result.disk (D.moment disk)) (D.may_leave result.disk) }
-
-    // Where nothing stopped it the script is whole, and every put is acknowledged and durable.
-    ensures complete { result.stop ≡ None → Completes script.now result.events.items result.acks.items }
-    ensures all { result.stop ≡ None → IsTrue (D.tells disk) → LeftNoFile D.may_leave disk
-        → (c : Image) → D.may_leave result.disk c → ShowsAll (commits_of_run script.now result.events.items) c }
-    ensures told { D.tells result.disk ≡ D.tells disk }
-    ensures time { Passes D.moment D.left_since disk result.disk }
+    ensures script { result.script ≡ script }
+    ensures run { IsRun D.Disk (status_of result.ending) disk result.disk
+        script result.events.items result.acks.items }
+    ensures frame { GoesOn D.Disk disk result.disk }
 
     // The disk stops it only by a fault.
-    ensures cause { StopHasCause (D.faults disk) (D.faults result.disk) result.stop }
+    ensures cause { EndHasCause (D.faults disk) (D.faults result.disk) result.ending }
 {
     let mut run = Run {
-        script,
+        script: script.lines(),
         done: 0,
         entries: Vec::new(alloc),
         events: Vec::new(alloc),
@@ -355,18 +333,24 @@ pub(crate) fn run_script<D: Disk>(alloc: Global, disk: D, script: &[Line]) -> Se
     match Journal::open(alloc, disk) {
         Ok(mut journal) => {
             let stop = run.play(alloc, &mut journal).err();
-            Session {
+            let (events, acks) = run.into_answers();
+            Outcome {
                 disk: journal.into_disk(),
-                events: run.events,
-                acks: run.acks,
-                stop,
+                script,
+                events,
+                acks,
+                ending: ending_of(stop),
             }
         }
-        Err(NotOpened { disk, fault }) => Session {
-            disk,
-            events: run.events,
-            acks: run.acks,
-            stop: Some(fault),
-        },
+        Err(NotOpened { disk, fault }) => {
+            let (events, acks) = run.into_answers();
+            Outcome {
+                disk,
+                script,
+                events,
+                acks,
+                ending: ending_of(Some(fault)),
+            }
+        }
     }
 }

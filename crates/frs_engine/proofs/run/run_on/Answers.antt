@@ -1,68 +1,76 @@
-use Rattle.std.proofs.Common.{◌∙◌, List, sym, subst, ⊎_elim, IsTrue, vec_len, arith}
-use Rattle.frs_disk.proofs.Moments.{passes_join}
-use Rattle.frs_history.specs.declared.command.Line.{Line}
-use Rattle.frs_engine.specs.Promise.{commits_of_run, Survives}
-use Rattle.frs_engine.proofs.Looked.{looked_once}
-use Rattle.frs_engine.proofs.Nothing.{empty_by_keys, empty_shown, none_there, none_counted, nothing_survives}
-use Rattle.frs_engine.proofs.Reasons.{stop_not_later}
+use Rattle.std.proofs.Common.{◌≡◌, [], ◌∙◌, sym, subst, ⊎_elim, IsTrue, vec_len, arith, ap, refl, List}
+use Rattle.std.specs.FinMap.{keys}
+use Rattle.frs_disk.proofs.Frames.{only_reads_call, reads_go_on, goes_on_join}
+use Rattle.frs_disk.specs.Frames.{OnlyReads, GoesOn}
+use Rattle.frs_engine.specs.declared.ending.Ending.TheVariants.{Disk, Memory, Later}
+use Rattle.frs_engine.proofs.Nothing.{empty_by_keys, none_there, none_counted}
+use Rattle.frs_engine.proofs.RunsOn.{nothing_run, nothing_changed, run_behind, end_behind, steady_behind, leaves_behind}
 use Rattle.frs_engine.proofs.run.run_on.Goals as goal
 
-pub run_script-session-requires-clause-empty : goal.run_script-session-requires-clause-empty
-run_script-session-requires-clause-empty g c told_now =
+-- ---- the disk lists no file
+
+pub run_script-requires-clause-empty : goal.run_script-requires-clause-empty
+run_script-requires-clause-empty g c told_now =
     let told : IsTrue (g.D.Disk.tells c.args.disk) = subst IsTrue c.in-Ok.ensures.told told_now in
     c.in-Ok.ensures.seen ∙ empty_by_keys _ (sym (c.in-Ok.ensures.numbers told) ∙ none_counted c.in-Ok.numbers.items (vec_len c.in-Ok.numbers) _ (omega arith) c.is_empty.ensures c.if-is_empty.true)
 
-pub run_script-session-requires-clause-not_removed : goal.run_script-session-requires-clause-not_removed
-run_script-session-requires-clause-not_removed g c told_now n removing =
+pub run_script-requires-clause-not_removed : goal.run_script-requires-clause-not_removed
+run_script-requires-clause-not_removed g c told_now n removing =
     let told : IsTrue (g.D.Disk.tells c.args.disk) = subst IsTrue c.in-Ok.ensures.told told_now in
     let above = c.requires.pending told n (c.in-Ok.ensures.pending n removing) in
     none_there (g.D.Disk.reads c.args.disk) above.0
     (empty_by_keys _ (sym (c.in-Ok.ensures.numbers told) ∙ none_counted c.in-Ok.numbers.items (vec_len c.in-Ok.numbers) _ (omega arith) c.is_empty.ensures c.if-is_empty.true)) above.1
 
-pub returns-in-Ok-clause-survives : goal.returns-in-Ok-clause-survives
-returns-in-Ok-clause-survives g c told only =
+pub returns-in-Ok-clause-run : goal.returns-in-Ok-clause-run
+returns-in-Ok-clause-run g c =
     let d = g.D.Disk in
-    let session = c.run_script-session.result in
-    let begun = c.run_script-session.ensures.survives (subst IsTrue (sym c.in-Ok.ensures.told) told) (λ x left. only x (c.in-Ok.ensures.crash x left)) in
-    let survives : Survives (commits_of_run c.args.script session.events.items) session.acks.items (d.left_since session.disk (d.moment c.segments.new.self)) (d.may_leave session.disk) =
-    subst (λ (lines : List Line). Survives (commits_of_run lines session.events.items) session.acks.items (d.left_since session.disk (d.moment c.segments.new.self)) (d.may_leave session.disk)) c.lines.ensures.lines begun in
-    record {
-      crash = λ x left. ⊎_elim
-          (λ before. (0, 0, empty_shown _ x (⊎_elim (λ was. only x was) (λ now. only x (c.in-Ok.ensures.crash x now)) (c.in-Ok.ensures.time.within x before))))
-          (λ since. survives.crash x since)
-          (c.run_script-session.ensures.time.splits (d.moment c.args.disk) x c.in-Ok.ensures.time.passes.later left);
-      durable = survives.durable;
-    }
+    let e = c.in-Ok.ensures in
+    run_behind d _ c.args.disk c.segments.new.self c.run_script.result.disk c.args.script _ _ (only_reads_call d c.args.disk c.segments.new.self e.told e.seen e.pending e.crash e.time) c.run_script.ensures.frame
+    c.run_script.ensures.run
 
-pub returns-in-Ok-clause-looked : goal.returns-in-Ok-clause-looked
-returns-in-Ok-clause-looked g c is = absurd (⊎_elim
-    (λ later. stop_not_later c.run_script-session.result.stop (sym c.ending_of.ensures ∙ later))
-    (λ listed. listed.1 (sym (c.in-Ok.ensures.numbers listed.0) ∙ none_counted c.in-Ok.numbers.items (vec_len c.in-Ok.numbers) _ (omega arith) c.is_empty.ensures c.if-is_empty.true))
-    is)
+pub returns-in-Ok-clause-end : goal.returns-in-Ok-clause-end
+returns-in-Ok-clause-end g c =
+    let none = λ (told : IsTrue (g.D.Disk.tells c.args.disk)). sym (c.in-Ok.ensures.numbers told) ∙ none_counted c.in-Ok.numbers.items (vec_len c.in-Ok.numbers) _ (omega arith) c.is_empty.ensures c.if-is_empty.true in
+    end_behind g.D.Disk c.args.disk c.segments.new.self c.run_script.result.disk c.in-Ok.ensures.cause none c.run_script.result.ending c.run_script.ensures.cause
 
-pub returns-in-Ok-clause-time : goal.returns-in-Ok-clause-time
-returns-in-Ok-clause-time g c =
+pub returns-in-Ok-clause-left_alone : goal.returns-in-Ok-clause-left_alone
+returns-in-Ok-clause-left_alone g c =
+    let none = λ (told : IsTrue (g.D.Disk.tells c.args.disk)). sym (c.in-Ok.ensures.numbers told) ∙ none_counted c.in-Ok.numbers.items (vec_len c.in-Ok.numbers) _ (omega arith) c.is_empty.ensures c.if-is_empty.true in
+    leaves_behind g.D.Disk c.args.disk c.segments.new.self c.run_script.result.disk c.in-Ok.ensures.cause none c.run_script.result.ending c.run_script.ensures.cause
+
+pub returns-in-Ok-clause-steady : goal.returns-in-Ok-clause-steady
+returns-in-Ok-clause-steady g c =
+    let none = λ (told : IsTrue (g.D.Disk.tells c.args.disk)). sym (c.in-Ok.ensures.numbers told) ∙ none_counted c.in-Ok.numbers.items (vec_len c.in-Ok.numbers) _ (omega arith) c.is_empty.ensures c.if-is_empty.true in
+    steady_behind g.D.Disk c.args.disk c.segments.new.self c.run_script.result.disk c.in-Ok.ensures.cause none c.run_script.result.ending c.run_script.ensures.cause
+
+pub returns-in-Ok-clause-frame : goal.returns-in-Ok-clause-frame
+returns-in-Ok-clause-frame g c =
     let d = g.D.Disk in
-    passes_join d.moment d.left_since c.args.disk _ c.run_script-session.result.disk (g.met.D.Disk.since_earlier c.run_script-session.result.disk) c.in-Ok.ensures.time.passes c.run_script-session.ensures.time
+    let e = c.in-Ok.ensures in
+    goes_on_join d g.met.D.Disk.since_earlier c.args.disk c.segments.new.self c.run_script.result.disk
+    (reads_go_on d c.args.disk c.segments.new.self (only_reads_call d c.args.disk c.segments.new.self e.told e.seen e.pending e.crash e.time)) c.run_script.ensures.frame
 
-pub returns-in-Ok-2-clause-looked : goal.returns-in-Ok-2-clause-looked
-returns-in-Ok-2-clause-looked g c is =
+-- ---- it lists some, or couldn't be asked
+
+pub returns-in-Ok-2-clause-run : goal.returns-in-Ok-2-clause-run
+returns-in-Ok-2-clause-run g c =
     let d = g.D.Disk in
-    looked_once d.reads d.may_leave d.moment d.left_since d.removing c.args.disk _ c.in-Ok-2.ensures.seen c.in-Ok-2.ensures.pending c.in-Ok-2.ensures.crash c.in-Ok-2.ensures.time
+    let e = c.in-Ok-2.ensures in
+    nothing_run d c.args.disk c.segments.new.self (only_reads_call d c.args.disk c.segments.new.self e.told e.seen e.pending e.crash e.time) c.nothing.result Later c.nothing.ensures.ending c.nothing.ensures.disk
+    _ c.nothing.ensures.events c.nothing.ensures.acks (λ is. omega (arith, is))
 
-pub returns-in-Err-clause-looked : goal.returns-in-Err-clause-looked
-returns-in-Err-clause-looked g c is =
+pub returns-in-Err-Failed-clause-run : goal.returns-in-Err-Failed-clause-run
+returns-in-Err-Failed-clause-run g c =
     let d = g.D.Disk in
-    looked_once d.reads d.may_leave d.moment d.left_since d.removing c.args.disk _ c.in-Err.ensures.seen c.in-Err.ensures.pending c.in-Err.ensures.crash c.in-Err.ensures.time
+    let e = c.segments.ensures in
+    let o = c.nothing-in-Err-Failed in
+    nothing_run d c.args.disk c.segments.new.self (only_reads_call d c.args.disk c.segments.new.self e.told e.seen e.pending e.crash e.time) o.result Disk o.ensures.ending o.ensures.disk
+    _ o.ensures.events o.ensures.acks (λ is. omega (arith, is))
 
-pub returns-in-Ok-2-clause-survives : goal.returns-in-Ok-2-clause-survives
-returns-in-Ok-2-clause-survives g c told only =
-    nothing_survives _ _ _ _ c.nothing.ensures.acks
-    (λ x left. ⊎_elim (only x) (λ now. only x (c.in-Ok-2.ensures.crash x now)) (c.in-Ok-2.ensures.time.within x left))
-    (λ x now. only x (c.in-Ok-2.ensures.crash x now))
-
-pub returns-in-Err-clause-survives : goal.returns-in-Err-clause-survives
-returns-in-Err-clause-survives g c told only =
-    nothing_survives _ _ _ _ c.nothing-in-Err.ensures.acks
-    (λ x left. ⊎_elim (only x) (λ now. only x (c.in-Err.ensures.crash x now)) (c.in-Err.ensures.time.within x left))
-    (λ x now. only x (c.in-Err.ensures.crash x now))
+pub returns-in-Err-Memory-clause-run : goal.returns-in-Err-Memory-clause-run
+returns-in-Err-Memory-clause-run g c =
+    let d = g.D.Disk in
+    let e = c.segments.ensures in
+    let o = c.nothing-in-Err-Memory in
+    nothing_run d c.args.disk c.segments.new.self (only_reads_call d c.args.disk c.segments.new.self e.told e.seen e.pending e.crash e.time) o.result Memory o.ensures.ending o.ensures.disk
+    _ o.ensures.events o.ensures.acks (λ is. omega (arith, is))

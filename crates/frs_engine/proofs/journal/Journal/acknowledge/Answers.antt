@@ -8,7 +8,7 @@ pub returns-clause-written : goal.returns-clause-written
 returns-clause-written g c records is =
     let d = g.D.Disk in
     record {
-      written = acknowledged d.tells d.reads d.may_leave c.args.self.now.writer c.acknowledge.new.self records c.args.lsn is.written
+      written = acknowledged d c.args.self.now.writer c.acknowledge.new.self records c.args.lsn is.written
           (omega (arith, c.requires.2, c.requires.1.written.synced, is.written.synced)) c.in-Ok.ensures.noted;
       drawn = record {
         one_ring = subst (λ (w : WriterView _). AreOfOneRing c.args.self.now.drawer w.taker) (sym c.in-Ok.ensures.noted) is.drawn.one_ring;

@@ -12,7 +12,7 @@ returns-clause-drawn g c records r is framed =
     let before : c.renew.new.end.drawn ≡ map spelling records = ap (λ e. e.drawn) c.in_ok-renew.ensures.drawer ∙ ap (λ e. e.drawn) looked.same ∙ is.drawn.drawn in
     let first_is : c.renew.new.self.taker.first ≡ 1 = ap (λ w. w.taker.first) c.in_ok-renew.ensures.taker.0 ∙ is.written.first in (
       record {
-        written = renewed d.tells d.reads d.may_leave c.args.self.now.writer c.renew.new.self records c.renew.new.self.taker.ring c.renew.new.self.taker.known is.written c.in_ok-renew.ensures.taker.0;
+        written = renewed d c.args.self.now.writer c.renew.new.self records c.renew.new.self.taker.ring c.renew.new.self.taker.known is.written c.in_ok-renew.ensures.taker.0;
         drawn = record {
           one_ring = (drew.ring ∙ c.in_ok-renew.ensures.one_ring.0, drew.first ∙ c.in_ok-renew.ensures.one_ring.1);
           drawn = drew.drawn ∙ ap (λ (l : List (List ℕ)). l ++ c.in-Err.full.framed ∷ []) before

@@ -1,10 +1,9 @@
 use Rattle.std.proofs.Common.{◌≡◌, ◌+◌, ◌++◌, ◌∷◌, [], ◌∙◌, List, ℕ, sym, ap, subst, arith, map, length, length-append}
 use Rattle.std.proofs.lemmas.List.{length-map}
 use mathlib.Core.List.{IsPrefix}
-use Rattle.frs_disk.specs.Disk.{Image}
 use Rattle.frs_frame.specs.Spelling.{spelling}
 use Rattle.frs_engine.specs.Journal.{FaultHasCause}
-use Rattle.frs_engine.proofs.Journals.{one_written, holds_within, known_more, write_cause, is_outside}
+use Rattle.frs_engine.proofs.Journals.{one_written, known_front, met_within, known_more, write_cause, is_outside}
 use Rattle.frs_engine.proofs.journal.Journal.write.Goals as goal
 
 pub meet-requires : goal.meet-requires
@@ -17,13 +16,13 @@ returns-in-Ok-clause-written g c records r is =
     let d = g.D.Disk in
     let mid = c.write_group-written.new.self in
     let new = c.meet.new.self in
+    let wrote = c.write_group-written.ensures in
     let drawn : c.meet.new.end.drawn ≡ map spelling (records ++ r ∷ []) = ap (λ e. e.drawn) c.meet.ensures.drawer ∙ is.next.drawn.drawn in
-    let taken : new.taker.taken ≡ mid.taker.taken = ap (λ w. w.taker.taken) c.meet.ensures.taker.0 in
-    let front : IsPrefix mid.taker.taken (map spelling (records ++ r ∷ [])) = subst (λ (l : List (List ℕ)). IsPrefix l (map spelling (records ++ r ∷ []))) taken (subst (λ (l : List (List ℕ)). IsPrefix new.taker.taken l) drawn c.meet.ensures.prefix) in
+    let front = known_front d mid new new.taker.known c.meet.ensures.taker.0 records r (subst (λ (l : List (List ℕ)). IsPrefix new.taker.taken l) drawn c.meet.ensures.prefix) in
     record {
-      written = known_more d.tells d.reads d.may_leave mid new (records ++ r ∷ []) new.taker.known
-          (one_written d.tells d.reads d.may_leave c.in-Ok.field-0 c.args.self.now.writer mid records r is.next.written is.known is.sure front c.in-Ok.ensures.wrote c.in-Ok.ensures.cause.2
-          c.write_group-written.ensures.same.0 c.write_group-written.ensures.same.1 c.write_group-written.ensures.told c.in-Ok.ensures.whole_durable) c.meet.ensures.taker.0;
+      written = known_more d mid new (records ++ r ∷ []) new.taker.known
+          (one_written d c.in-Ok.field-0 c.args.self.now.writer mid records r is.next.written is.known is.sure front c.in-Ok.ensures.wrote c.in-Ok.ensures.cause.2
+          wrote.same.0 wrote.same.1 wrote.frame.told c.in-Ok.ensures.whole_durable) c.meet.ensures.taker.0;
       drawn = record { one_ring = c.meet.ensures.one_ring; drawn = drawn };
     }
 
@@ -31,25 +30,17 @@ pub returns-in-Ok-clause-images : goal.returns-in-Ok-clause-images
 returns-in-Ok-clause-images g c records r is placed told none x left =
     let d = g.D.Disk in
     let old = c.args.self.now.writer in
-    let mid = c.write_group-written.new.self in
-    let new = c.meet.new.self in
     let drawn : c.meet.new.end.drawn ≡ map spelling (records ++ r ∷ []) = ap (λ e. e.drawn) c.meet.ensures.drawer ∙ is.next.drawn.drawn in
-    let taken : new.taker.taken ≡ mid.taker.taken = ap (λ w. w.taker.taken) c.meet.ensures.taker.0 in
-    let front : IsPrefix mid.taker.taken (map spelling (records ++ r ∷ [])) = subst (λ (l : List (List ℕ)). IsPrefix l (map spelling (records ++ r ∷ []))) taken (subst (λ (l : List (List ℕ)). IsPrefix new.taker.taken l) drawn c.meet.ensures.prefix) in
-    holds_within d.tells d.reads d.may_leave old mid records r is.next.written c.write_group-written.ensures.same.0 told none (λ (i : Image). d.left_since new.disk (d.moment old.disk) i) front placed
-    (λ well log is_log is_placed was i since. c.write_group-written.ensures.whole told well log is_log is_placed was i (subst (λ w. d.left_since w.disk (d.moment old.disk) i) c.meet.ensures.taker.0 since)) x left
+    met_within d c.write_group-written.new.self c.meet.new.self c.meet.new.self.taker.known c.meet.ensures.taker.0 records r old is.next.written c.write_group-written.ensures.same.0 told none
+    (subst (λ (l : List (List ℕ)). IsPrefix c.meet.new.self.taker.taken l) drawn c.meet.ensures.prefix) placed (c.write_group-written.ensures.whole told) x left
 
 pub returns-in-Err-clause-images : goal.returns-in-Err-clause-images
 returns-in-Err-clause-images g c records r is placed told none x left =
     let d = g.D.Disk in
     let old = c.args.self.now.writer in
-    let mid = c.write_group-written.new.self in
-    let new = c.meet.new.self in
     let drawn : c.meet.new.end.drawn ≡ map spelling (records ++ r ∷ []) = ap (λ e. e.drawn) c.meet.ensures.drawer ∙ is.next.drawn.drawn in
-    let taken : new.taker.taken ≡ mid.taker.taken = ap (λ w. w.taker.taken) c.meet.ensures.taker.0 in
-    let front : IsPrefix mid.taker.taken (map spelling (records ++ r ∷ [])) = subst (λ (l : List (List ℕ)). IsPrefix l (map spelling (records ++ r ∷ []))) taken (subst (λ (l : List (List ℕ)). IsPrefix new.taker.taken l) drawn c.meet.ensures.prefix) in
-    holds_within d.tells d.reads d.may_leave old mid records r is.next.written c.write_group-written.ensures.same.0 told none (λ (i : Image). d.left_since new.disk (d.moment old.disk) i) front placed
-    (λ well log is_log is_placed was i since. c.write_group-written.ensures.whole told well log is_log is_placed was i (subst (λ w. d.left_since w.disk (d.moment old.disk) i) c.meet.ensures.taker.0 since)) x left
+    met_within d c.write_group-written.new.self c.meet.new.self c.meet.new.self.taker.known c.meet.ensures.taker.0 records r old is.next.written c.write_group-written.ensures.same.0 told none
+    (subst (λ (l : List (List ℕ)). IsPrefix c.meet.new.self.taker.taken l) drawn c.meet.ensures.prefix) placed (c.write_group-written.ensures.whole told) x left
 
 pub returns-in-Err-clause-cause : goal.returns-in-Err-clause-cause
 returns-in-Err-clause-cause g c =
@@ -59,7 +50,7 @@ returns-in-Err-clause-cause g c =
     let records = c.requires.published.0 in
     let is = c.requires.published.2 in
     let all : length c.args.self.now.drawer.drawn ≡ length records + 1 = ap length is.next.drawn.drawn ∙ length-map (records ++ c.requires.published.1 ∷ []) spelling ∙ length-append records (c.requires.published.1 ∷ []) in
-    let outside = is_outside d.tells d.reads d.may_leave d.faults old c.write_group-written.new.self records c.in-Err.fault is.next.written (omega (arith, all, c.requires.room)) c.in-Err.ensures.cause in
-    let cause = write_cause d.faults old c.write_group-written.new.self c.in-Err.fault c.in-Err.ensures.cause outside in
+    let outside = is_outside d old c.write_group-written.new.self records c.in-Err.fault is.next.written (omega (arith, all, c.requires.room)) c.in-Err.ensures.cause in
+    let cause = write_cause d old c.write_group-written.new.self c.in-Err.fault c.in-Err.ensures.cause outside in
     subst (λ w. FaultHasCause (d.faults old.disk) (d.faults w.disk) c.fault_of.result) (sym c.meet.ensures.taker.0)
     (subst (λ f. FaultHasCause (d.faults old.disk) (d.faults c.write_group-written.new.self.disk) f) (sym c.fault_of.ensures) cause)

@@ -2,7 +2,7 @@ use Rattle.std.proofs.Common.{◌≤◌, [], arith, length}
 use Rattle.std.specs.Str.Lines.{lines}
 use Rattle.frs_text.specs.Scripts.{up_to}
 use Rattle.frs_engine.proofs.Counted.{few_lines}
-use Rattle.frs_engine.proofs.parsing.read_script.Goals as goal
+use Rattle.frs_engine.proofs.plan_script.read_script.Goals as goal
 
 pub returns-clause-short : goal.returns-clause-short
 returns-clause-short g c =

@@ -1,12 +1,10 @@
 //! Reads the script of a plan's one file.
 ghost use Rattle.std.specs.Prelude.{◌≡◌, ◌⊎◌, ◌<◌, ◌^◌, ℕ, List, Some, None, Ok, Err, length, IsTrue, IfOk, IfErr, MatchResult};
-ghost use Rattle.frs_disk.specs.Disk.{Rose};
-ghost use Rattle.frs_text.specs.declared.script_fault.ScriptFault.{ScriptFault as Refusal};
-ghost use Rattle.frs_engine.specs.Causes.{one_file, bytes_of_plan, ending_of_plan, IsUnread};
+ghost use Rattle.frs_engine.specs.Causes.{one_file, bytes_of_plan, ending_of_plan, SpellsScript, IsUnread};
 ghost use Rattle.frs_engine.specs.Endings.{script_in, ending_by};
 ghost use Rattle.frs_engine.specs.Promise.{is_put_or_get, has_puts_and_gets};
 
-use crate::report::Ending;
+use crate::ending::Ending;
 use frs_disk::{Fault, Files, Name};
 use frs_history::{Command, Line, Script};
 use frs_text::{RunPlan, ScriptFault, parse_script};
@@ -22,7 +20,8 @@ const SNAPSHOTS: u32 = 64;
 
 // The name of the one file of a plan, or how a run of the plan ends.
 fn one_file(plan: &RunPlan) -> Result<&Name, Ending>
-    ensures { MatchResult result (λ name. one_file plan.now ≡ Some name.now) (λ ending. (one_file plan.now ≡ None) × (ending ≡ ending_of_plan plan.now)) }
+    ensures { MatchResult result (λ name. one_file plan.now ≡ Some name.now)
+        (λ ending. (one_file plan.now ≡ None) × (ending ≡ ending_of_plan plan.now)) }
 {
     match plan {
         RunPlan::Scripts { files } => match files.names() {
@@ -40,7 +39,8 @@ fn one_file(plan: &RunPlan) -> Result<&Name, Ending>
 fn parse(alloc: Global, bytes: &[u8]) -> Result<Script, Ending>
     requires { length bytes.now < 2 ^ 32 }
     ensures found { IfOk result (λ script. script_in bytes.now ≡ Ok script) }
-    ensures refused { IfErr result (λ ending. (ending ≡ Ending.Memory) ⊎ ((fault : Refusal) × (script_in bytes.now ≡ Err fault) × (ending ≡ ending_by fault))) }
+    ensures refused { IfErr result (λ ending. (ending ≡ Ending.Memory)
+        ⊎ ((fault : _) × (script_in bytes.now ≡ Err fault) × (ending ≡ ending_by fault))) }
 {
     match parse_script(alloc, bytes, COMMANDS, SNAPSHOTS) {
         Ok(script) => Ok(script),
@@ -70,12 +70,12 @@ pub(crate) fn read_script<F: Files>(
     plan: &RunPlan,
     files: &mut F,
 ) -> Result<Script, Ending>
-    ensures found { IfOk result (λ script. IsTrue (F.tells files.old) → (file : List ℕ) × (bytes_of_plan plan.now (F.file files.old) ≡ Some file) × (script_in file ≡ Ok script)) }
+    ensures found { IfOk result (λ script. IsTrue (F.tells files.old)
+        → SpellsScript (bytes_of_plan plan.now (F.file files.old)) script) }
     ensures simple { IfOk result (λ script. IsTrue (has_puts_and_gets script)) }
     ensures short { IfOk result (λ script. length script < 2 ^ 32) }
-    ensures one { IfOk result (λ script. (name : List ℕ) × (one_file plan.now ≡ Some name)) }
     ensures several { one_file plan.now ≡ None → result ≡ Err (ending_of_plan plan.now) }
-    ensures why { IfErr result (λ ending. IsUnread plan.now (F.tells files.old) (bytes_of_plan plan.now (F.file files.old)) (Rose (F.faults files.old) (F.faults files.new)) ending) }
+    ensures why { IfErr result (IsUnread F.Files plan.now files.old files.new) }
     ensures steady { (result ≡ Err Ending.Unread) ⊎ (F.faults files.new ≡ F.faults files.old) }
 {
     let name = one_file(plan)?;
