@@ -6,6 +6,7 @@ use Rattle.frs_history.specs.declared.event.Event.{Event}
 use Rattle.frs_disk.specs.declared.disk.Disk as disks
 use Rattle.frs_disk.specs.declared.outside.Files as files
 use Rattle.frs_disk.specs.Disk.{Rose}
+use Rattle.frs_text.specs.declared.plan.TheConstants.{CLIENT_LIMIT}
 use Rattle.frs_text.specs.declared.plan.RunPlan.{RunPlan}
 use Rattle.frs_text.specs.declared.plan.RunPlan.TheVariants.{Scripts, Demo}
 use Rattle.frs_text.specs.declared.script_fault.ScriptFault.{ScriptFault}
@@ -27,10 +28,10 @@ abbrev pub bytes_of_plan : RunPlan → (List ℕ → Option (List ℕ)) → Opti
 bytes_of_plan (Scripts (name ∷ [])) file = file name
 bytes_of_plan other file = None
 
--- How a run of a plan without one file ends: with more than 64 clients it is refused, and with more than one it isn't
+-- How a run of a plan without one file ends: with more than `CLIENT_LIMIT` clients it is refused, and with more than one it isn't
 -- built yet.
 abbrev pub ending_of_plan : RunPlan → Ending
-ending_of_plan (Scripts names) = if nat_lt 64 (length names) then Crowded (length names) else Later
+ending_of_plan (Scripts names) = if nat_lt CLIENT_LIMIT (length names) then Crowded (length names) else Later
 ending_of_plan (Demo clients count) = Later
 
 -- the plan asks for more than one script, and isn't refused

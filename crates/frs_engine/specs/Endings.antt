@@ -15,6 +15,7 @@ use Rattle.frs_text.specs.declared.script_fault.ScriptFault.TheVariants as scrip
 use Rattle.frs_engine.specs.declared.ending.Ending.{Ending}
 use Rattle.frs_engine.specs.declared.ending.Ending.TheVariants.{Closed, Bad, Long, Disk, Unread, Past, Crowded, Memory, Later}
 use Rattle.frs_engine.specs.declared.outcome.Outcome.{Outcome}
+use Rattle.frs_engine.specs.declared.plan_script.TheConstants.{COMMAND_LIMIT, SNAPSHOT_LIMIT}
 use Rattle.frs_engine.specs.declared.status.Status.{Status}
 use Rattle.frs_engine.specs.declared.status.Status.TheVariants as status
 use Rattle.frs_engine.specs.Statuses.{code_of}
@@ -23,7 +24,7 @@ use Rattle.frs_engine.specs.Statuses.{code_of}
 
 -- the script that the bytes of the one file spell: of at most so many commands and snapshots
 abbrev pub script_in : List ℕ → Result (List Line) ScriptFault
-script_in bytes = script_of (up_to 1000000 64) bytes
+script_in bytes = script_of (up_to COMMAND_LIMIT SNAPSHOT_LIMIT) bytes
 
 -- how a run ends whose script is refused
 abbrev pub ending_by : ScriptFault → Ending

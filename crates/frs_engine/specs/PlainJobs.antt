@@ -13,7 +13,7 @@ use Rattle.frs_recovery.specs.declared.fault.RecoverFault.{RecoverFault}
 use Rattle.frs_recovery.specs.declared.fault.RecoverFault.TheVariants.{BadHeader, BadChunk, Gap, NumberLimit, Disk, Memory}
 use Rattle.frs_recovery.specs.declared.recovered.Recovered.{Recovered}
 use Rattle.frs_recovery.specs.Answers.{IsInRange, place_of_entry}
-use Rattle.frs_recovery.specs.Wrong.{IsWrongFirst}
+use Rattle.frs_recovery.specs.FirstFault.{IsWrongFirst}
 use Rattle.frs_text.specs.Text.{Text, dump, stat_text, stat_of, stat_found}
 use Rattle.frs_text.specs.LastLines.{last_line}
 use Rattle.frs_text.specs.declared.last_line.LastLine.{LastLine}

@@ -9,6 +9,7 @@ use Rattle.frs_disk.specs.declared.outside.Files as files
 use Rattle.frs_disk.specs.declared.outside.Sink as sinks
 use Rattle.frs_disk.specs.Disk.{Image, Rose}
 use Rattle.frs_disk.specs.Frames.{LeftNoFile, OnlyReads}
+use Rattle.frs_text.specs.declared.plan.TheConstants.{CLIENT_LIMIT, DEMO_LIMIT}
 use Rattle.frs_text.specs.declared.plan.RunPlan.{RunPlan}
 use Rattle.frs_text.specs.declared.plan.RunPlan.TheVariants.{Scripts, Demo}
 use Rattle.frs_text.specs.declared.script_fault.ScriptFault.{ScriptFault}
@@ -26,7 +27,8 @@ use Rattle.frs_engine.specs.Statuses.{is_status}
 -- the plan names a file, or has the numbers of a demo within their limits
 abbrev pub HasWork : RunPlan → Type 0
 HasWork (Scripts names) = 1 ≤ length names
-HasWork (Demo clients count) = IsTrue (nat_le 1 clients && nat_le clients 64 && nat_le 1 count && nat_le count 3000)
+HasWork (Demo clients count) =
+    IsTrue (nat_le 1 clients && nat_le clients CLIENT_LIMIT && nat_le 1 count && nat_le count DEMO_LIMIT)
 
 -- ---- the disk
 

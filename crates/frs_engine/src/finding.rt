@@ -3,8 +3,9 @@ ghost use Rattle.std.specs.Prelude.{◌≡◌};
 ghost use Rattle.frs_engine.specs.PlainJobs.{fault_status, refusal_line, status_found, maps_finding, numbers_finding};
 
 use crate::status::Status;
-use frs_recovery::{Entries, RecoverFault, Recovered};
+use frs_recovery::{RecoverFault, Recovered};
 use frs_text::LastLine;
+use frs_types::{Entry, Sequence};
 
 /// What is known of a store, before anything is printed.
 #[derive(Debug, Drop)]
@@ -14,7 +15,7 @@ pub(crate) enum Finding {
     /// The entries of its maps.
     Maps {
         /// By rising LSN.
-        entries: Entries,
+        entries: Sequence<Entry>,
     },
     /// It as a whole, of which the numbers are asked for.
     Numbers {

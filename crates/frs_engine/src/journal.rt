@@ -12,9 +12,9 @@ ghost use Rattle.frs_engine.specs.Journal.{IsWritten, IsNext, IsPublished, Holds
 
 use frs_disk::{Disk, Fault};
 use frs_frame::Framed;
-use frs_segment::{Found, Numbers, Segments};
+use frs_segment::{Found, MOST_RECORDS};
 use frs_slots::{Drawer, NoRoom, Slip, ring};
-use frs_types::NoMemory;
+use frs_types::{NoMemory, Sequence};
 use frs_writer::{NotYet, Refused, WriteFault, Writer};
 use std::alloc::Global;
 
@@ -23,9 +23,6 @@ pub(crate) const CLIENT: u32 = 1;
 
 // So many records may be drawn that aren't written yet.
 const CAPACITY: u32 = 1_024;
-
-// A group has at most so many records.
-const GROUP: u32 = 256;
 
 /// A journal on its way: a record that was appended to it is durable.
 #[derive(Drop)]
@@ -48,9 +45,9 @@ fn nothing_found(alloc: Global) -> Found
     ensures { IsFound [] [] (log_of []) result }
 {
     Found {
-        segments: Segments::of(Vec::new(alloc)),
-        half: Numbers::of(Vec::new(alloc)),
-        older: Numbers::of(Vec::new(alloc)),
+        segments: Sequence::of(Vec::new(alloc)),
+        half: Sequence::of(Vec::new(alloc)),
+        older: Sequence::of(Vec::new(alloc)),
         greatest: 0,
         next: 1,
         named: 1,
@@ -164,7 +161,7 @@ impl<D: Disk> Journal<D> {
         ensures cause { CallHasCause (D.faults self.old.writer.disk)
             (D.faults self.new.writer.disk) result }
     {
-        let written = self.writer.write_group(alloc, GROUP);
+        let written = self.writer.write_group(alloc, MOST_RECORDS);
         // What was taken is a part of what was drawn.
         self.writer.meet(&mut self.drawer);
         match written {

@@ -13,7 +13,7 @@ mod run;
 mod session;
 mod status;
 
-pub use frs_text::{FileNames, PlainPlan, RunPlan};
+pub use frs_text::{PlainPlan, RunPlan};
 pub use frs_types::{NoTurn, Turn};
 pub use plain_job::{Left, frs_plain};
 pub use run::{Ended, frs_run};

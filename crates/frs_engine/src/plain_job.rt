@@ -1,12 +1,12 @@
 //! A job without clients: it looks at a store and prints what it holds. Nothing on the disk changes.
-ghost use Rattle.std.specs.Prelude.{◌≡◌, ◌≢◌, ◌⊎◌, ◌++◌, List, IsTrue, OnOk};
+ghost use Rattle.std.specs.Prelude.{◌≡◌, ◌≢◌, ◌⊎◌, List, IsTrue, OnOk};
 ghost use Rattle.std.specs.FinMap.{entries};
 ghost use Rattle.frs_types.specs.Records.{Log};
 ghost use Rattle.frs_disk.specs.Disk.{HasCause};
 ghost use Rattle.frs_disk.specs.Frames.{OnlyReads};
-ghost use Rattle.frs_disk.specs.Outside.{AddsPartOf};
 ghost use Rattle.frs_segment.specs.Segments.{WholeSegment, SpellsBy};
-ghost use Rattle.frs_recovery.specs.Wrong.{IsWrongFirst};
+ghost use Rattle.frs_recovery.specs.FirstFault.{IsWrongFirst};
+ghost use Rattle.frs_text.specs.Sinks.{WritesAll, WritesPart};
 ghost use Rattle.frs_text.specs.declared.plan.PlainPlan.TheVariants.{Compact};
 ghost use Rattle.frs_engine.specs.Reports.{IsReported};
 ghost use Rattle.frs_engine.specs.PlainJobs.{refusal_status, finding_status, finding_text, IsSaid, IsPrintable, WasLookedAt, HasPlainCauses, IsPlainComplete};
@@ -54,16 +54,14 @@ fn look<D: Disk>(alloc: Global, plan: &PlainPlan, disk: &mut D) -> Finding
 // Prints what is known of a store.
 fn print<S: Sink>(alloc: Global, finding: &Finding, sink: &mut S) -> Result<(), Fault>
     requires { IsPrintable finding.now }
-    ensures all { OnOk result (IsTrue (S.tells sink.old)
-        → S.written sink.new ≡ S.written sink.old ++ finding_text finding.now) }
-    ensures part { IsTrue (S.tells sink.old)
-        → AddsPartOf (finding_text finding.now) (S.written sink.old) (S.written sink.new) }
+    ensures all { OnOk result (WritesAll S.Sink (finding_text finding.now) sink.old sink.new) }
+    ensures part { WritesPart S.Sink (finding_text finding.now) sink.old sink.new }
     ensures told { S.tells sink.new ≡ S.tells sink.old }
     ensures cause { HasCause (S.faults sink.old) (S.faults sink.new) result }
 {
     match finding {
         Finding::Later => write_last_line(alloc, LastLine::Later, sink),
-        Finding::Maps { entries } => dump(alloc, entries.entries(), sink),
+        Finding::Maps { entries } => dump(alloc, entries.items(), sink),
         Finding::Numbers { recovered } => stat_text(alloc, recovered, sink),
         Finding::Refused { fault } => write_last_line(alloc, line_of(*fault), sink),
     }

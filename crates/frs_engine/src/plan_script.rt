@@ -7,16 +7,14 @@ ghost use Rattle.frs_engine.specs.Promise.{is_put_or_get, has_puts_and_gets};
 use crate::ending::Ending;
 use frs_disk::{Fault, Files, Name};
 use frs_history::{Command, Line, Script};
-use frs_text::{RunPlan, ScriptFault, parse_script};
+use frs_text::{CLIENT_LIMIT, RunPlan, ScriptFault, parse_script};
 use std::alloc::Global;
 
-// A run has at most so many clients.
-const CLIENTS: usize = 64;
+/// The most commands of a script.
+pub(crate) const COMMAND_LIMIT: u32 = 1_000_000;
 
-// A file has at most so many commands, and so many snapshots.
-const COMMANDS: u32 = 1_000_000;
-
-const SNAPSHOTS: u32 = 64;
+/// The most snapshots of a script.
+pub(crate) const SNAPSHOT_LIMIT: u32 = 64;
 
 // The name of the one file of a plan, or how a run of the plan ends.
 fn one_file(plan: &RunPlan) -> Result<&Name, Ending>
@@ -24,9 +22,9 @@ fn one_file(plan: &RunPlan) -> Result<&Name, Ending>
         (λ ending. (one_file plan.now ≡ None) × (ending ≡ ending_of_plan plan.now)) }
 {
     match plan {
-        RunPlan::Scripts { files } => match files.names() {
+        RunPlan::Scripts { files } => match files.items() {
             [name] => Ok(name),
-            names if names.len() > CLIENTS => Err(Ending::Crowded {
+            names if names.len() > CLIENT_LIMIT as usize => Err(Ending::Crowded {
                 clients: names.len() as u64,
             }),
             _ => Err(Ending::Later),
@@ -42,7 +40,7 @@ fn parse(alloc: Global, bytes: &[u8]) -> Result<Script, Ending>
     ensures refused { IfErr result (λ ending. (ending ≡ Ending.Memory)
         ⊎ ((fault : _) × (script_in bytes.now ≡ Err fault) × (ending ≡ ending_by fault))) }
 {
-    match parse_script(alloc, bytes, COMMANDS, SNAPSHOTS) {
+    match parse_script(alloc, bytes, COMMAND_LIMIT, SNAPSHOT_LIMIT) {
         Ok(script) => Ok(script),
         Err(ScriptFault::BadLine { line }) => Err(Ending::Bad { line }),
         Err(ScriptFault::TooLong { line }) => Err(Ending::Long { line }),

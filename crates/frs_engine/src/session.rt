@@ -28,7 +28,7 @@ use crate::outcome::Outcome;
 use frs_disk::{Disk, Fault};
 use frs_frame::{Framed, encode_payload};
 use frs_history::{Ack, Command, Event, Line, Reply, Script, What};
-use frs_types::{Action, Entry, Key, MapId, NoMemory, Value};
+use frs_types::{Action, Entry, ID_LIMIT, KEY_LIMIT, Key, MapId, NoMemory, VALUE_LIMIT, Value};
 use std::alloc::Global;
 
 /// A run on its way.
@@ -89,8 +89,8 @@ impl<'a> Run<'a> {
         ensures done { self.new.done ≡ self.old.done }
     {
         // Their types keep the words within the limits of a record.
-        prove!(id.bytes().len() <= 64 && key.bytes().len() <= 255);
-        prove!(value.bytes().len() <= 65_535);
+        prove!(id.bytes().len() <= ID_LIMIT && key.bytes().len() <= KEY_LIMIT);
+        prove!(value.bytes().len() <= VALUE_LIMIT);
         let what = Action::Put {
             id: id.copy(alloc)?,
             key: key.copy(alloc)?,

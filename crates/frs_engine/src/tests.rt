@@ -1,11 +1,11 @@
 //! Runs over the forms in memory: their texts, statuses and bytes, and what a crash behind each call leaves.
 ghost use Rattle.std.specs.Prelude.{◌<◌, ◌≤◌, ◌^◌, IfOk, length};
 ghost use Rattle.frs_engine.specs.Runs.{HasWork};
-ghost use Rattle.frs_disk.specs.Disk.{NoneRemovedAbove};
+ghost use Rattle.frs_disk.specs.Frames.{NoneRemovedAbove};
 
-use crate::{FileNames, RunPlan, frs_run};
+use crate::{RunPlan, frs_run};
 use frs_disk::{Choice, FaultPlan, MemDisk, MemFiles, MemShelf, MemSink, Name};
-use frs_types::{NoMemory, NoTurn};
+use frs_types::{NoMemory, NoTurn, Sequence};
 use std::alloc::Global;
 use std::sync::Wait;
 use std::test::Fail;
@@ -69,7 +69,7 @@ pub(crate) struct Left {
 }
 
 fn empty_disk(alloc: Global, plan: FaultPlan) -> Result<MemDisk, NoMemory>
-    ensures { IfOk result (NoneRemovedAbove ⟦<MemDisk as frs_disk::Disk>⟧.reads ⟦<MemDisk as frs_disk::Disk>⟧.removing) }
+    ensures { IfOk result (NoneRemovedAbove ⟦<MemDisk as frs_disk::Disk>⟧) }
 {
     MemDisk::of(alloc, Vec::new(alloc), plan)
 }
@@ -87,7 +87,7 @@ fn plan_of(alloc: Global, name: &str) -> Result<RunPlan, NoMemory>
     let mut names = Vec::new(alloc);
     names.push(Name::new(alloc, name)?)?;
     Ok(RunPlan::Scripts {
-        files: FileNames::of(names),
+        files: Sequence::of(names),
     })
 }
 
@@ -110,7 +110,7 @@ fn run_plan<R: Threads + Wait + Sync>(
     failing: Vec<u64>,
 ) -> Result<Left, NoMemory>
     requires work { HasWork plan.now }
-    requires pending { NoneRemovedAbove ⟦<MemDisk as frs_disk::Disk>⟧.reads ⟦<MemDisk as frs_disk::Disk>⟧.removing disk }
+    requires pending { NoneRemovedAbove ⟦<MemDisk as frs_disk::Disk>⟧ disk }
 {
     let mut files = files;
     let mut sink = MemSink::of(alloc, failing)?;
@@ -132,7 +132,7 @@ fn run_on<R: Threads + Wait + Sync>(
     failing: Vec<u64>,
 ) -> Result<Left, NoMemory>
     requires short { length script.now < 2 ^ 32 }
-    requires pending { NoneRemovedAbove ⟦<MemDisk as frs_disk::Disk>⟧.reads ⟦<MemDisk as frs_disk::Disk>⟧.removing disk }
+    requires pending { NoneRemovedAbove ⟦<MemDisk as frs_disk::Disk>⟧ disk }
 {
     let plan = plan_of(alloc, "a")?;
     let files = files_of(alloc, script)?;
@@ -577,7 +577,7 @@ fn run_files<R: Threads + Wait + Sync>(
         return Err(NoMemory);
     }
     let plan = RunPlan::Scripts {
-        files: FileNames::of(names),
+        files: Sequence::of(names),
     };
     let files = files_of(alloc, b"get m k\n")?;
     let disk = empty_disk(alloc, no_fault(alloc))?;
@@ -626,7 +626,7 @@ fn a_file_of_commands_that_isnt_there_is_unread(rt: HostRuntime) -> Result<(), F
 
 // A disk with file 1 of the one byte 1.
 fn disk_with_a_file(alloc: Global) -> Result<MemDisk, NoMemory>
-    ensures { IfOk result (NoneRemovedAbove ⟦<MemDisk as frs_disk::Disk>⟧.reads ⟦<MemDisk as frs_disk::Disk>⟧.removing) }
+    ensures { IfOk result (NoneRemovedAbove ⟦<MemDisk as frs_disk::Disk>⟧) }
 {
     let bytes = Vec::from_slice(alloc, &[1])?;
     MemDisk::of(alloc, vec![in alloc; (1, bytes)]?, no_fault(alloc))

@@ -1,7 +1,7 @@
 //! The files of commands, by their paths.
 ghost use Rattle.std.specs.Prelude.{◌<◌, ◌^◌, ◌↔◌, false, None, IsOk, IfOk, length};
 
-use crate::cause::answer;
+use crate::system_fault::answer;
 use frs_disk::{Fault, Files, Name};
 use std::alloc::Global;
 use std::fs::File;

@@ -4,8 +4,9 @@ ghost use Rattle.std.specs.FinMap.{empty};
 ghost use Rattle.std.specs.List.Sorted.{IsStrictlyIncreasing};
 ghost use Rattle.frs_disk.specs.Disk.{IsNumber, HasCause};
 
-use crate::cause::answer;
+use crate::system_fault::answer;
 use frs_disk::{Disk, Fault};
+use frs_types::NUMBER_LIMIT;
 use std::alloc::{AllocError, Global};
 use std::fs::{File, OpenOptions};
 use std::io::ErrorKind;
@@ -73,7 +74,7 @@ fn number_of(name: &str) -> Option<u64>
         return None;
     }
     let number = digits.parse::<u64>().ok()?;
-    if number < 1 || number >= 1 << 62 {
+    if number < 1 || number >= NUMBER_LIMIT {
         return None;
     }
     Some(number)

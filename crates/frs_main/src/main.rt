@@ -1,26 +1,25 @@
 //! The program `frs`: a restartable store in a folder.
 #![tactic(auto)]
 
-mod cause;
 mod files;
 mod folder;
-mod out;
+mod out_sink;
 mod refusal;
+mod system_fault;
 #[cfg(test)]
 mod tests;
 
 ghost use Rattle.std.specs.Prelude.{◌≡◌};
-ghost use Rattle.frs_text.specs.declared.plan.RunPlan.{RunPlan as Runs};
 ghost use Rattle.frs_engine.specs.Runs.{HasWork};
 
 use files::FolderFiles;
 use folder::FolderDisk;
 use frs_disk::{Fault, MemShelf, Name, Sink};
-use frs_engine::{NoTurn, RunPlan, frs_plain, frs_run};
+use frs_engine::{NoTurn, Status, frs_plain, frs_run};
 use frs_text::{Job, Plan, read_words};
 use frs_types::NoMemory;
-use out::OutSink;
-use refusal::{OUT_OF_MEMORY, Refusal, USAGE};
+use out_sink::OutSink;
+use refusal::{Refusal, USAGE};
 use std::env;
 use std::process::ExitCode;
 use std::sync::Wait;
@@ -41,9 +40,6 @@ const COMMANDS: &[u8] = b"  STORE               the store: a folder that exists
 So far run takes one file of put and get commands, and a store without segments.
 What can't be done yet prints later and ends with status 10.
 ";
-
-/// The status where the output failed.
-const OUTPUT_FAILED: u8 = 6;
 
 fn main(rt: HostRuntime) -> ExitCode {
     ExitCode::from(status_of(&rt, rt))
@@ -82,7 +78,7 @@ fn carry_out<R: Threads + Wait + Sync>(
     host: HostRuntime,
     plan: &Plan,
 ) -> Result<u8, NoMemory>
-    requires { (run : Runs) → plan.now.job ≡ Job.Run run → HasWork run }
+    requires { (run : _) → plan.now.job ≡ Job.Run run → HasWork run }
 {
     let alloc = host.alloc();
     let disk = FolderDisk::of(host, plan.store.as_str())?;
@@ -104,9 +100,9 @@ fn print(rt: HostRuntime, texts: &[&[u8]]) -> u8 {
     for text in texts {
         match sink.write(text) {
             Ok(()) => {}
-            Err(Fault::Failed) => return OUTPUT_FAILED,
-            Err(Fault::Memory) => return OUT_OF_MEMORY,
+            Err(Fault::Failed) => return Status::SinkStop.code(),
+            Err(Fault::Memory) => return Status::MemoryStop.code(),
         }
     }
-    0
+    Status::Done.code()
 }

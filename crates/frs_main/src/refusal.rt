@@ -3,6 +3,7 @@ ghost use Rattle.std.specs.Prelude.{◌≡◌, ℕ};
 ghost use Rattle.frs_text.specs.declared.words_fault.WordsFault.TheVariants as words;
 ghost use Rattle.frs_main.specs.declared.refusal.Refusal.TheVariants as told;
 
+use frs_engine::Status;
 use frs_text::WordsFault;
 use frs_types::NoMemory;
 use std::alloc::{AllocError, AllocFailed};
@@ -12,12 +13,6 @@ use std::io::{ErrorKind, Write};
 /// How the program is called.
 pub(crate) const USAGE: &[u8] =
     b"usage: frs STORE run FILE.. | recover | compact | stat | demo CLIENTS COUNT\n";
-
-/// The status of words that ask for nothing.
-const NOT_UNDERSTOOD: u8 = 1;
-
-/// The status where there was no memory.
-pub(crate) const OUT_OF_MEMORY: u8 = 9;
 
 /// Why nothing is begun.
 #[derive(Clone, Copy, Debug, PartialEq, Eq)]
@@ -37,15 +32,16 @@ impl Refusal {
         match self {
             Refusal::Usage => {
                 let _ = rt.stderr().write_all(USAGE);
-                NOT_UNDERSTOOD
+                Status::WrongWords.code()
             }
-            Refusal::Memory => OUT_OF_MEMORY,
+            Refusal::Memory => Status::MemoryStop.code(),
         }
     }
 }
 
 impl From<WordsFault> for Refusal {
-    ghost from_gives = { λ fault r. (fault ≡ words.Memory → r ≡ told.Memory) × ((n : ℕ) → fault ≡ words.Usage n → r ≡ told.Usage) };
+    ghost from_gives = { λ fault r. (fault ≡ words.Memory → r ≡ told.Memory)
+        × ((n : ℕ) → fault ≡ words.Usage n → r ≡ told.Usage) };
 
     fn from(fault: WordsFault) -> Self {
         match fault {

@@ -1,7 +1,7 @@
 //! The real forms, once each on a real folder.
 use crate::files::FolderFiles;
 use crate::folder::FolderDisk;
-use crate::out::OutSink;
+use crate::out_sink::OutSink;
 use frs_disk::{Disk, Fault, Files, Name, Sink};
 use std::alloc::Global;
 use std::fs::File;

@@ -1,5 +1,5 @@
 use Rattle.std.proofs.Common.{sym, arith, add-one, subst, ℕ}
-use Rattle.frs_engine.proofs.Places.{Below, below_start, below_more, put_here, put_before, put_last}
+use Rattle.frs_engine.proofs.PositionOf.{Below, below_start, below_more, put_here, put_before, put_last}
 use Rattle.frs_engine.proofs.entries.position_of.Goals as goal
 
 pub loop-at-init : goal.loop-at-init

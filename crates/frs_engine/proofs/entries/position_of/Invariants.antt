@@ -1,4 +1,4 @@
-use Rattle.frs_engine.proofs.Places.{Below}
+use Rattle.frs_engine.proofs.PositionOf.{Below}
 use Rattle.frs_engine.proofs.entries.position_of.Given as goal
 
 abbrev pub invariant-loop-at : goal.invariant-loop-at

@@ -4,7 +4,7 @@ use Rattle.std.specs.FinMap.Entries.{put}
 use Rattle.frs_types.specs.declared.record.Entry.{Entry}
 use Rattle.frs_types.specs.Maps.{place_cmp}
 use Rattle.frs_engine.specs.Entries.{place_in, held_of, table}
-use Rattle.frs_engine.proofs.Places.{table-set, table-insert}
+use Rattle.frs_engine.proofs.PositionOf.{table-set, table-insert}
 use Rattle.frs_engine.proofs.entries.set_entry.Goals as goal
 
 pub returns-in-Ok-clause-set : goal.returns-in-Ok-clause-set

@@ -1,7 +1,7 @@
 use Rattle.std.proofs.Common.{◌≡◌, ◌∙◌, ⊎_elim, inl, inr, sym, subst, arith, ℕ}
 use Rattle.frs_engine.specs.PlainJobs.{finding_status, finding_text}
-use Rattle.frs_engine.proofs.Findings.{done_or_memory, known_plain, sink_stopped, refusal_answered}
-use Rattle.frs_engine.proofs.Reasons.{decided_is, answered}
+use Rattle.frs_engine.proofs.IsSaid.{done_or_memory, known_plain, sink_stopped, refusal_answered}
+use Rattle.frs_engine.proofs.IsCause.{decided_is, answered}
 use Rattle.frs_engine.proofs.plain_job.frs_plain.Goals as goal
 
 pub returns-clause-ran : goal.returns-clause-ran

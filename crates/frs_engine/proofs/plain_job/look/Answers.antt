@@ -5,7 +5,7 @@ use Rattle.frs_text.specs.declared.plan.PlainPlan.{PlainPlan}
 use Rattle.frs_text.specs.declared.plan.PlainPlan.TheVariants.{Stat}
 use Rattle.frs_engine.specs.declared.finding.Finding.{Finding}
 use Rattle.frs_engine.specs.PlainJobs.{refusal_status, finding_status, finding_text, IsSaid}
-use Rattle.frs_engine.proofs.Findings.{IsToldAs, maps_status, numbers_status, refused_as, given_as, numbers_said}
+use Rattle.frs_engine.proofs.IsSaid.{IsToldAs, maps_status, numbers_status, refused_as, given_as, numbers_said}
 use Rattle.frs_disk.proofs.Frames.{only_reads_none}
 use Rattle.frs_engine.proofs.plain_job.look.Goals as goal
 

@@ -2,7 +2,7 @@ use Rattle.std.proofs.Common.{◌∙◌, ap}
 use Rattle.frs_engine.specs.declared.status.Status.{Status}
 use Rattle.frs_engine.specs.PlainJobs.{status_found, finding_text}
 use Rattle.frs_engine.specs.Statuses.{code_of, status_after}
-use Rattle.frs_engine.proofs.Texts.{is_reported, whole_prints}
+use Rattle.frs_engine.proofs.OutcomeText.{is_reported, whole_prints}
 use Rattle.frs_engine.proofs.plain_job.tell.Goals as goal
 
 pub returns : goal.returns

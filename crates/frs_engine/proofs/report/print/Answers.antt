@@ -1,32 +1,30 @@
-use Rattle.std.proofs.Common.{◌≡◌, ◌∙◌, ◌++◌, rules, true, ap, sym, subst, IsTrue}
+use Rattle.std.proofs.Common.{◌≡◌, ◌∙◌, ◌++◌, ◌∷◌, [], rules, true, ap, sym, subst, IsTrue}
 use Rattle.std.proofs.lemmas.Result.{on_ok_weaker}
 use Rattle.frs_text.specs.LastLines.{last_line}
-use Rattle.frs_text.specs.Text.{Text}
-use Rattle.frs_disk.specs.Outside.{AddsPartOf}
-use Rattle.frs_engine.specs.Endings.{last_line_of, has_transcript, outcome_text}
-use Rattle.frs_engine.specs.Reports.{Prints, PrintsAll}
-use Rattle.frs_engine.proofs.Texts.{said, said_same, alone_text, run_text, both_print, last_prints, first_prints, part_prints}
+use Rattle.frs_text.specs.Text.{Text, history_text}
+use Rattle.frs_engine.specs.Endings.{has_transcript, outcome_text}
+use Rattle.frs_engine.proofs.OutcomeText.{same_history, run_text, both_print, last_prints}
 use Rattle.frs_engine.proofs.report.print.Goals as goal
 
 pub returns-clause-all : goal.returns-clause-all
 returns-clause-all g c =
     let o = c.args.outcome.now in
     let more : has_transcript o.ending ≡ true = search (rules, sym c.has_transcript.ensures, c.if-not-has_transcript.false) in
-    let first : Text = said o.script o.events.items o.acks.items in
+    let first : Text = history_text (o.script ∷ []) o.events.items o.acks.items in
     let last : Text = last_line c.last_line-last.result in
     let text : outcome_text o ≡ first ++ last = run_text o.ending o.script o.events.items o.acks.items more ∙ ap (λ (l : Text). first ++ l) (sym (ap last_line c.last_line-last.ensures)) in
     on_ok_weaker c.write_last_line-2.result (λ whole told.
     both_print first last _ _ _ _ text
-    (c.in_ok-transcript.ensures.all told ∙ ap (λ (t : Text). g.S.Sink.written c.args.sink.now ++ t) (said_same _ _ _ _ _ _ c.from_ref-scripts.ensures.value c.deref.ensures.value c.deref-2.ensures.value))
+    (c.in_ok-transcript.ensures.all told ∙ ap (λ (t : Text). g.S.Sink.written c.args.sink.now ++ t) (same_history _ _ _ _ _ _ c.from_ref-scripts.ensures.value c.deref.ensures.value c.deref-2.ensures.value))
     (whole (subst IsTrue (sym c.in_ok-transcript.ensures.told) told))) c.write_last_line-2.ensures.all
 
 pub returns-clause-part : goal.returns-clause-part
 returns-clause-part g c told =
     let o = c.args.outcome.now in
     let more : has_transcript o.ending ≡ true = search (rules, sym c.has_transcript.ensures, c.if-not-has_transcript.false) in
-    let first : Text = said o.script o.events.items o.acks.items in
+    let first : Text = history_text (o.script ∷ []) o.events.items o.acks.items in
     let last : Text = last_line c.last_line-last.result in
     let text : outcome_text o ≡ first ++ last = run_text o.ending o.script o.events.items o.acks.items more ∙ ap (λ (l : Text). first ++ l) (sym (ap last_line c.last_line-last.ensures)) in
     last_prints first last _ _ _ _ text
-    (c.in_ok-transcript.ensures.all told ∙ ap (λ (t : Text). g.S.Sink.written c.args.sink.now ++ t) (said_same _ _ _ _ _ _ c.from_ref-scripts.ensures.value c.deref.ensures.value c.deref-2.ensures.value))
+    (c.in_ok-transcript.ensures.all told ∙ ap (λ (t : Text). g.S.Sink.written c.args.sink.now ++ t) (same_history _ _ _ _ _ _ c.from_ref-scripts.ensures.value c.deref.ensures.value c.deref-2.ensures.value))
     (c.write_last_line-2.ensures.part (subst IsTrue (sym c.in_ok-transcript.ensures.told) told))

@@ -2,7 +2,7 @@ use Rattle.std.proofs.Common.{◌∙◌, ap}
 use Rattle.frs_engine.specs.declared.status.Status.{Status}
 use Rattle.frs_engine.specs.Endings.{ending_status, outcome_text}
 use Rattle.frs_engine.specs.Statuses.{code_of, status_after}
-use Rattle.frs_engine.proofs.Texts.{is_reported}
+use Rattle.frs_engine.proofs.OutcomeText.{is_reported}
 use Rattle.frs_engine.proofs.report.report.Goals as goal
 
 pub returns : goal.returns

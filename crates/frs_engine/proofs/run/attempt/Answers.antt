@@ -4,8 +4,8 @@ use Rattle.frs_disk.specs.Frames.{OnlyReads, GoesOn}
 use Rattle.frs_history.specs.declared.command.Line.{Line}
 use Rattle.frs_engine.specs.declared.ending.Ending.{Ending}
 use Rattle.frs_engine.specs.Causes.{IsUnread, SpellsScript, bytes_of_plan}
-use Rattle.frs_engine.proofs.Reasons.{unread_not_zero}
-use Rattle.frs_engine.proofs.RunsOn.{nothing_run}
+use Rattle.frs_engine.proofs.IsCause.{unread_not_zero}
+use Rattle.frs_engine.proofs.IsRun.{nothing_run}
 use Rattle.frs_engine.proofs.run.attempt.Goals as goal
 
 -- ---- a run was begun

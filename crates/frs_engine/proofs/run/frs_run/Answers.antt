@@ -3,7 +3,7 @@ use Rattle.frs_engine.specs.declared.ending.Ending.{Ending}
 use Rattle.frs_engine.specs.declared.ending.Ending.TheVariants.{Closed, Disk, Unread}
 use Rattle.frs_engine.specs.Causes.{handed}
 use Rattle.frs_engine.specs.Endings.{status_of}
-use Rattle.frs_engine.proofs.Reasons.{decided_is, known_status, zero_closed, bad_cause, disk_cause, files_cause, sink_cause, limit_cause, later_cause, refused_ending, others_ending, whole_ending, plan_answered, fault_answered, put_off, others_put_off, not_decided, whole_answered, risen}
+use Rattle.frs_engine.proofs.IsCause.{decided_is, known_status, zero_closed, bad_cause, disk_cause, files_cause, sink_cause, limit_cause, later_cause, refused_ending, others_ending, whole_ending, plan_answered, fault_answered, put_off, others_put_off, not_decided, whole_answered, risen}
 use Rattle.frs_engine.proofs.run.frs_run.Goals as goal
 
 pub returns-clause-run : goal.returns-clause-run

@@ -10,10 +10,10 @@ use Rattle.frs_engine.specs.Endings.{status_of}
 use Rattle.frs_engine.specs.Promise.{commits_of_run, Tells, Completes, ShowsCommits, ShowsAcked, ShowsAll}
 use Rattle.frs_engine.specs.Runs.{IsRun}
 use Rattle.frs_engine.specs.Session.{commits_so_far}
-use Rattle.frs_engine.proofs.Joining.{not_stopped}
-use Rattle.frs_engine.proofs.Running.{none_shown, none_acked}
-use Rattle.frs_engine.proofs.Refused.{nothing_told}
-use Rattle.frs_engine.proofs.RunsOn.{stop_closed}
+use Rattle.frs_engine.proofs.Extends.{not_stopped}
+use Rattle.frs_engine.proofs.IsAnswered.{none_shown, none_acked}
+use Rattle.frs_engine.proofs.Tells.{nothing_told}
+use Rattle.frs_engine.proofs.IsRun.{stop_closed}
 use Rattle.frs_engine.proofs.session.run_script.Goals as goal
 
 pub returns-in-Ok-clause-run : goal.returns-in-Ok-clause-run

@@ -1,7 +1,7 @@
 use Rattle.std.proofs.Common.{◌∙◌, ℕ, List, ap, set, arith, sym, subst}
 use Rattle.frs_slots.specs.Views.{AreOfOneRing}
 use Rattle.frs_writer.specs.Writer.{WriterView}
-use Rattle.frs_engine.proofs.Journals.{acknowledged}
+use Rattle.frs_engine.proofs.HasWritten.{acknowledged}
 use Rattle.frs_engine.proofs.journal.Journal.acknowledge.Goals as goal
 
 pub returns-clause-written : goal.returns-clause-written

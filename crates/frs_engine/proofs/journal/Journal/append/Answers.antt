@@ -1,8 +1,8 @@
 use Rattle.std.proofs.Common.{◌≡◌, ◌++◌, ◌∷◌, [], ◌∙◌, inl, length, ap, subst, arith, length-append}
 use Rattle.std.proofs.lemmas.List.{length-map}
 use Rattle.frs_frame.specs.Spelling.{spelling}
-use Rattle.frs_engine.proofs.Journals.{placed_before}
-use Rattle.frs_engine.proofs.Showing.{holds_more}
+use Rattle.frs_engine.proofs.HasWritten.{placed_before}
+use Rattle.frs_engine.proofs.ShowsPuts.{holds_more}
 use Rattle.frs_engine.proofs.journal.Journal.append.Goals as goal
 
 pub returns-in_err-slip-clause-images : goal.returns-in_err-slip-clause-images

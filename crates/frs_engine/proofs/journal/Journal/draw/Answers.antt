@@ -1,7 +1,7 @@
 use Rattle.std.proofs.Common.{◌≡◌, ◌++◌, ◌∷◌, [], ◌∙◌, sym, length, map, ap, arith, List, ℕ}
 use Rattle.std.proofs.lemmas.List.{length-map, map-append}
 use Rattle.frs_frame.specs.Spelling.{spelling}
-use Rattle.frs_engine.proofs.Journals.{renewed}
+use Rattle.frs_engine.proofs.HasWritten.{renewed}
 use Rattle.frs_engine.proofs.journal.Journal.draw.Goals as goal
 
 pub returns-clause-drawn : goal.returns-clause-drawn

@@ -3,12 +3,12 @@ use Rattle.frs_segment.specs.Stores.{IsFound}
 use Rattle.frs_segment.specs.Scanning.{places_of_segment}
 use Rattle.frs_slots.specs.Views.{AreOfOneRing}
 use Rattle.frs_writer.specs.Places.{number_of_newest}
-use Rattle.frs_writer.specs.Shown.{new_segment}
+use Rattle.frs_writer.specs.LogImages.{new_segment}
 use Rattle.frs_disk.specs.Frames.{LeftNoFile}
 use Rattle.frs_writer.specs.Writer.{WriterView}
 use Rattle.frs_engine.specs.Journal.{log_of}
 use Rattle.frs_disk.proofs.NoFiles.{no_entries}
-use Rattle.frs_engine.proofs.Journals.{well_opened, was_empty, empty_holds}
+use Rattle.frs_engine.proofs.HasWritten.{well_opened, was_empty, empty_holds}
 use Rattle.frs_engine.proofs.journal.Journal.open.Goals as goal
 
 pub returns-in_default-clause-images_refused : goal.returns-in_default-clause-images_refused
@@ -21,12 +21,12 @@ new-requires-clause-found g c told =
 pub returns-in-Ok-new-clause-images : goal.returns-in-Ok-new-clause-images
 returns-in-Ok-new-clause-images g c told none x left =
     let d = g.D.Disk in
-    (c.in-Ok-new.ensures.whole told (well_opened d c.args.disk (c.requires.empty told) none) (was_empty d c.args.disk (c.requires.empty told)) x left).1 none
+    (c.in-Ok-new.ensures.crash.0.whole told (well_opened d c.args.disk (c.requires.empty told) none) (was_empty d c.args.disk (c.requires.empty told)) x left).1 none
 
 pub returns-in-Err-clause-images_refused : goal.returns-in-Err-clause-images_refused
 returns-in-Err-clause-images_refused g c told none x left =
     let d = g.D.Disk in
-    (c.in-Err.ensures.whole_refused told (well_opened d c.args.disk (c.requires.empty told) none) (was_empty d c.args.disk (c.requires.empty told)) x left).1 none
+    (c.in-Err.ensures.crash.1.whole told (well_opened d c.args.disk (c.requires.empty told) none) (was_empty d c.args.disk (c.requires.empty told)) x left).1 none
 
 pub returns-in-Ok-new-clause-written : goal.returns-in-Ok-new-clause-written
 returns-in-Ok-new-clause-written g c =
@@ -55,7 +55,7 @@ returns-in-Ok-new-clause-written g c =
             let told_before : IsTrue (d.tells c.args.disk) = subst IsTrue c.in-Ok-new.ensures.frame.0.told told in
             let none_before : LeftNoFile d c.args.disk = subst (λ e. LeftNoFile d e) is.0 none in
             let empty = c.requires.empty told_before in
-            (c.in-Ok-new.ensures.whole_durable told_before (well_opened d c.args.disk empty none_before) (was_empty d c.args.disk empty) x left).1 none_before;
+            (c.in-Ok-new.ensures.durable.whole told_before (well_opened d c.args.disk empty none_before) (was_empty d c.args.disk empty) x left).1 none_before;
       };
       drawn = record {
         one_ring = subst (λ t. AreOfOneRing c.in-Ok.drawer t) (sym is.1) c.in-Ok.ensures.one_ring;

@@ -1,7 +1,7 @@
 use Rattle.std.proofs.Common.{◌≡◌, ◌+◌, ◌++◌, ◌∷◌, [], ◌∙◌, length, ap, arith, length-append}
 use Rattle.std.proofs.lemmas.List.{length-map}
 use Rattle.frs_frame.specs.Spelling.{spelling}
-use Rattle.frs_engine.proofs.Journals.{learned, known_more}
+use Rattle.frs_engine.proofs.HasWritten.{learned, known_more}
 use Rattle.frs_engine.proofs.journal.Journal.publish.Goals as goal
 
 pub returns-clause-published : goal.returns-clause-published

@@ -3,7 +3,7 @@ use Rattle.std.proofs.lemmas.List.{length-map}
 use mathlib.Core.List.{IsPrefix}
 use Rattle.frs_frame.specs.Spelling.{spelling}
 use Rattle.frs_engine.specs.Journal.{FaultHasCause}
-use Rattle.frs_engine.proofs.Journals.{one_written, known_front, met_within, known_more, write_cause, is_outside}
+use Rattle.frs_engine.proofs.HasWritten.{one_written, known_front, met_within, known_more, write_cause, is_outside}
 use Rattle.frs_engine.proofs.journal.Journal.write.Goals as goal
 
 pub meet-requires : goal.meet-requires
@@ -22,7 +22,7 @@ returns-in-Ok-clause-written g c records r is =
     record {
       written = known_more d mid new (records ++ r ∷ []) new.taker.known
           (one_written d c.in-Ok.field-0 c.args.self.now.writer mid records r is.next.written is.known is.sure front c.in-Ok.ensures.wrote c.in-Ok.ensures.cause.2
-          wrote.same.0 wrote.same.1 wrote.frame.told c.in-Ok.ensures.whole_durable) c.meet.ensures.taker.0;
+          wrote.same.0 wrote.same.1 wrote.frame.told c.in-Ok.ensures.durable.whole) c.meet.ensures.taker.0;
       drawn = record { one_ring = c.meet.ensures.one_ring; drawn = drawn };
     }
 
@@ -32,7 +32,7 @@ returns-in-Ok-clause-images g c records r is placed told none x left =
     let old = c.args.self.now.writer in
     let drawn : c.meet.new.end.drawn ≡ map spelling (records ++ r ∷ []) = ap (λ e. e.drawn) c.meet.ensures.drawer ∙ is.next.drawn.drawn in
     met_within d c.write_group-written.new.self c.meet.new.self c.meet.new.self.taker.known c.meet.ensures.taker.0 records r old is.next.written c.write_group-written.ensures.same.0 told none
-    (subst (λ (l : List (List ℕ)). IsPrefix c.meet.new.self.taker.taken l) drawn c.meet.ensures.prefix) placed (c.write_group-written.ensures.whole told) x left
+    (subst (λ (l : List (List ℕ)). IsPrefix c.meet.new.self.taker.taken l) drawn c.meet.ensures.prefix) placed (c.write_group-written.ensures.crash.whole told) x left
 
 pub returns-in-Err-clause-images : goal.returns-in-Err-clause-images
 returns-in-Err-clause-images g c records r is placed told none x left =
@@ -40,7 +40,7 @@ returns-in-Err-clause-images g c records r is placed told none x left =
     let old = c.args.self.now.writer in
     let drawn : c.meet.new.end.drawn ≡ map spelling (records ++ r ∷ []) = ap (λ e. e.drawn) c.meet.ensures.drawer ∙ is.next.drawn.drawn in
     met_within d c.write_group-written.new.self c.meet.new.self c.meet.new.self.taker.known c.meet.ensures.taker.0 records r old is.next.written c.write_group-written.ensures.same.0 told none
-    (subst (λ (l : List (List ℕ)). IsPrefix c.meet.new.self.taker.taken l) drawn c.meet.ensures.prefix) placed (c.write_group-written.ensures.whole told) x left
+    (subst (λ (l : List (List ℕ)). IsPrefix c.meet.new.self.taker.taken l) drawn c.meet.ensures.prefix) placed (c.write_group-written.ensures.crash.whole told) x left
 
 pub returns-in-Err-clause-cause : goal.returns-in-Err-clause-cause
 returns-in-Err-clause-cause g c =

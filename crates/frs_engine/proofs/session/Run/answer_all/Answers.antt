@@ -1,7 +1,7 @@
 use Rattle.std.proofs.Common.{◌≡◌, ◌∙◌, ap, sym, subst, refl, length, arith, IsTrue}
 use Rattle.frs_disk.specs.Frames.{LeftNoFile}
-use Rattle.frs_engine.proofs.Progress.{progress_none, progress_step, step_acked}
-use Rattle.frs_engine.proofs.Running.{ready_now}
+use Rattle.frs_engine.proofs.IsProgress.{progress_none, progress_step, step_acked}
+use Rattle.frs_engine.proofs.IsAnswered.{ready_now}
 use Rattle.frs_engine.proofs.session.Run.answer_all.Goals as goal
 
 pub loop-self-init : goal.loop-self-init

@@ -1,5 +1,5 @@
 use Rattle.std.proofs.Common.{ap, length, arith}
-use Rattle.frs_engine.proofs.Running.{step_refused, step_answered}
+use Rattle.frs_engine.proofs.IsAnswered.{step_refused, step_answered}
 use Rattle.frs_engine.proofs.session.Run.answer_next.Goals as goal
 
 pub returns-in-Ok-clause-step : goal.returns-in-Ok-clause-step

@@ -1,5 +1,5 @@
 use Rattle.std.proofs.Common.{refl}
-use Rattle.frs_engine.proofs.Running.{get_answered}
+use Rattle.frs_engine.proofs.IsAnswered.{get_answered}
 use Rattle.frs_engine.proofs.session.Run.get.Goals as goal
 
 pub returns-clause-ready : goal.returns-clause-ready

@@ -6,8 +6,8 @@ use Rattle.frs_types.specs.declared.record.Record.{Record}
 use Rattle.frs_frame.specs.Spelling.{spelling}
 use Rattle.frs_engine.specs.Entries.{table}
 use Rattle.frs_engine.specs.Session.{record_drawn, commits_so_far}
-use Rattle.frs_engine.proofs.Joining.{extends_none}
-use Rattle.frs_engine.proofs.Running.{ready_drawn, ready_open, answered_tells, acked_next, mark_before, mark_after, mark_log, mark_answered, step_refused}
+use Rattle.frs_engine.proofs.Extends.{extends_none}
+use Rattle.frs_engine.proofs.IsAnswered.{ready_drawn, ready_open, answered_tells, acked_next, mark_before, mark_after, mark_log, mark_answered, step_refused}
 use Rattle.frs_engine.proofs.session.Run.mark.Goals as goal
 
 pub returns-in_default-clause-step : goal.returns-in_default-clause-step

@@ -1,9 +1,9 @@
 use Rattle.std.proofs.Common.{◌∙◌, sym, subst, refl, arith, IsTrue}
 use Rattle.std.proofs.lemmas.Result.{on_ok_weaker}
 use Rattle.frs_disk.specs.Frames.{LeftNoFile}
-use Rattle.frs_engine.proofs.Joining.{on_ok_both}
-use Rattle.frs_engine.proofs.Progress.{progress_none, progress_step, progress_join, step_acked}
-use Rattle.frs_engine.proofs.Running.{answered_completes, ready_all}
+use Rattle.frs_engine.proofs.Extends.{on_ok_both}
+use Rattle.frs_engine.proofs.IsProgress.{progress_none, progress_step, progress_join, step_acked}
+use Rattle.frs_engine.proofs.IsAnswered.{answered_completes, ready_all}
 use Rattle.frs_engine.proofs.session.Run.play.Goals as goal
 
 pub returns-in_err-mark-clause-progress : goal.returns-in_err-mark-clause-progress

@@ -6,7 +6,7 @@ use Rattle.frs_frame.specs.Spelling.{spelling}
 use Rattle.frs_history.specs.declared.event.Ack.{Ack}
 use Rattle.frs_engine.specs.Entries.{table}
 use Rattle.frs_engine.specs.Session.{put_drawn}
-use Rattle.frs_engine.proofs.Running.{ready_drawn, answered_tells, put_extends, put_log, put_images, put_tells, put_answered, step_refused}
+use Rattle.frs_engine.proofs.IsAnswered.{ready_drawn, answered_tells, put_extends, put_log, put_images, put_tells, put_answered, step_refused}
 use Rattle.frs_engine.proofs.session.Run.put.Goals as goal
 
 pub returns-in_default-clause-step : goal.returns-in_default-clause-step

@@ -9,9 +9,9 @@ use Rattle.frs_engine.specs.declared.journal.Journal.{Journal}
 use Rattle.frs_engine.specs.declared.session.Run.{Run}
 use Rattle.frs_engine.specs.Promise.{ShowsAcked}
 use Rattle.frs_engine.specs.Session.{IsUnderWay, IsStep, IsProgress, commits_so_far}
-use Rattle.frs_engine.proofs.Joining.{extends_none, extends_join, all_shown, shown_join}
-use Rattle.frs_engine.proofs.Running.{answered_tells, ready_now}
-use Rattle.frs_engine.proofs.Showing.{known_acked}
+use Rattle.frs_engine.proofs.Extends.{extends_none, extends_join, all_shown, shown_join}
+use Rattle.frs_engine.proofs.IsAnswered.{answered_tells, ready_now}
+use Rattle.frs_engine.proofs.ShowsPuts.{known_acked}
 
 module _ {D : Type 0} (g : Ghosts D) where
   -- nothing was done yet

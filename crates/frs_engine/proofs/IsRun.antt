@@ -17,8 +17,8 @@ use Rattle.frs_engine.specs.Endings.{ending_of_stop, status_of}
 use Rattle.frs_engine.specs.Promise.{commits_of_run}
 use Rattle.frs_engine.specs.Runs.{IsRun, LeavesAlone}
 use Rattle.frs_engine.specs.Session.{EndHasCause}
-use Rattle.frs_engine.proofs.Nothing.{empty_shown, nothing_survives}
-use Rattle.frs_engine.proofs.Refused.{nothing_told}
+use Rattle.frs_engine.proofs.Survives.{empty_shown, nothing_survives}
+use Rattle.frs_engine.proofs.Tells.{nothing_told}
 
 -- ---- nothing was run
 

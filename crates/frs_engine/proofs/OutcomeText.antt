@@ -9,7 +9,7 @@ use Rattle.frs_disk.specs.declared.disk.Fault.TheVariants as faults
 use Rattle.frs_disk.specs.declared.outside.Sink.{Ghosts}
 use Rattle.frs_disk.specs.Disk.{HasCause, Rose}
 use Rattle.frs_disk.specs.Outside.{AddsPartOf}
-use Rattle.frs_text.specs.Text.{Text, event_line, ack_line, transcript}
+use Rattle.frs_text.specs.Text.{Text, event_line, ack_line, history_text, transcript}
 use Rattle.frs_engine.specs.declared.ending.Ending.{Ending}
 use Rattle.frs_engine.specs.declared.status.Status.{Status}
 use Rattle.frs_engine.specs.declared.status.Status.TheVariants as status
@@ -20,11 +20,7 @@ use Rattle.frs_engine.specs.Statuses.{code_of, status_unprinted, status_after}
 pub alone_text : (e : Ending) (script : List Line) (events : List Event) (acks : List Ack) → has_transcript e ≡ false → text_of e script events acks ≡ last_line_of e
 alone_text e script events acks alone = ap (λ (b : Bool). cond b (transcript (script ∷ []) events acks (last_line_of e)) (last_line_of e)) alone
 
--- the lines of events and acknowledgements
-abbrev pub said : List Line → List Event → List Ack → Text
-said script events acks = flat_map (event_line (script ∷ [])) events ++ flat_map ack_line acks
-
-pub run_text : (e : Ending) (script : List Line) (events : List Event) (acks : List Ack) → has_transcript e ≡ true → text_of e script events acks ≡ said script events acks ++ last_line_of e
+pub run_text : (e : Ending) (script : List Line) (events : List Event) (acks : List Ack) → has_transcript e ≡ true → text_of e script events acks ≡ history_text (script ∷ []) events acks ++ last_line_of e
 run_text e script events acks more = ap (λ (b : Bool). cond b (transcript (script ∷ []) events acks (last_line_of e)) (last_line_of e)) more
 
 -- ---- what a sink took
@@ -58,9 +54,9 @@ pub both_print : (first last whole before middle after : Text) → whole ≡ fir
 both_print first last whole before middle after is all then =
     then ∙ ap (λ (t : Text). t ++ last) all ∙ append_assoc before first last ∙ ap (λ (t : Text). before ++ t) (sym is)
 
-pub said_same : (scripts : List (List Line)) (ev events : List Event) (ac acks : List Ack) (script : List Line) → scripts ≡ script ∷ [] → ev ≡ events → ac ≡ acks
-    → flat_map (event_line scripts) ev ++ flat_map ack_line ac ≡ said script events acks
-said_same scripts ev events ac acks script is_script is_events is_acks =
+pub same_history : (scripts : List (List Line)) (ev events : List Event) (ac acks : List Ack) (script : List Line) → scripts ≡ script ∷ [] → ev ≡ events → ac ≡ acks
+    → history_text scripts ev ac ≡ history_text (script ∷ []) events acks
+same_history scripts ev events ac acks script is_script is_events is_acks =
     ap (λ (s : List (List Line)). flat_map (event_line s) ev ++ flat_map ack_line ac) is_script
     ∙ ap (λ (es : List Event). flat_map (event_line (script ∷ [])) es ++ flat_map ack_line ac) is_events
     ∙ ap (λ (a : List Ack). flat_map (event_line (script ∷ [])) events ++ flat_map ack_line a) is_acks

@@ -1,7 +1,7 @@
 //! Where the program prints.
 ghost use Rattle.std.specs.Prelude.{false, []};
 
-use crate::cause::answer;
+use crate::system_fault::answer;
 use frs_disk::{Fault, Sink};
 use std::io::Write;
 

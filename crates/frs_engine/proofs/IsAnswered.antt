@@ -34,12 +34,12 @@ use Rattle.frs_engine.specs.Promise.{commits_of_run, owed_acks, puts, puts_by, i
 use Rattle.frs_engine.specs.Session.{record_drawn, put_drawn, state_at, answer_event, IsLogOfRun, IsAnswered, IsUnderWay, IsFresh, commits_so_far, Extends, IsStep}
 use Rattle.frs_writer.specs.Writing.{HoldsOnly}
 use Rattle.std.specs.FinMap.{entries}
-use Rattle.frs_engine.proofs.Answering.{put_run, put_commits, put_owed, get_run, get_commits, get_owed, acks_within}
-use Rattle.frs_engine.proofs.Joining.{extends_same}
-use Rattle.frs_engine.proofs.Logging.{log_start, puts-push, log-put, log-mark}
-use Rattle.frs_engine.proofs.Nothing.{none_by_map}
-use Rattle.frs_engine.proofs.Showing.{records_show, holds_more}
-use Rattle.frs_engine.proofs.Tables.{find-plain, plain-put}
+use Rattle.frs_engine.proofs.AnswerEvent.{put_run, put_commits, put_owed, get_run, get_commits, get_owed, acks_within}
+use Rattle.frs_engine.proofs.Extends.{extends_same}
+use Rattle.frs_engine.proofs.IsLogOfRun.{log_start, puts-push, log-put, log-mark}
+use Rattle.frs_engine.proofs.Survives.{none_by_map}
+use Rattle.frs_engine.proofs.ShowsPuts.{records_show, holds_more}
+use Rattle.frs_engine.proofs.TableOfEntries.{find-plain, plain-put}
 
 -- ---- what a run that is ready says
 

@@ -1,4 +1,4 @@
--- A disk without files shows no record, and a run that makes no change leaves nothing else.
+-- What a run leaves that made no change: a disk without files shows no record.
 use Rattle.std.proofs.Common.{◌≡◌, ◌∙◌, ap, sym, refl, subst, arith, rules, ℕ, List, [], ◌∷◌, map, length}
 use Rattle.std.specs.Prelude.{◌==◌, Bool, true, Option, None, IsSome}
 use Rattle.std.specs.Ordering.{nat_cmp}
@@ -9,7 +9,7 @@ use Rattle.frs_disk.specs.Frames.{LeftNoFile, OnlyReads}
 use Rattle.frs_history.specs.declared.event.Ack.{Ack}
 use Rattle.frs_history.specs.Machine.{Changes}
 use Rattle.frs_disk.proofs.NoFiles.{entries_empty, no_entries}
-use Rattle.frs_segment.proofs.Order.{no_files}
+use Rattle.frs_segment.proofs.IsInOrder.{no_files}
 use Rattle.frs_engine.specs.Promise.{ShowsPuts, Survives}
 
 -- no numbers, no files

@@ -11,7 +11,7 @@ use Rattle.frs_history.specs.declared.event.Ack.{Ack}
 use Rattle.frs_history.specs.Machine.{Changes}
 use Rattle.frs_engine.specs.Promise.{ShowsCommits, ShowsAcked}
 use Rattle.frs_engine.specs.Session.{Extends}
-use Rattle.frs_engine.proofs.Showing.{known_more, known_acked}
+use Rattle.frs_engine.proofs.ShowsPuts.{known_more, known_acked}
 
 pub extends_none : (commits : List Changes) → Extends commits commits
 extends_none commits = ([], sym (append-nil commits))

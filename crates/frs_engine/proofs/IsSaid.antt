@@ -8,7 +8,7 @@ use Rattle.frs_recovery.specs.declared.fault.RecoverFault.TheVariants.{BadHeader
 use Rattle.frs_recovery.specs.declared.recovered.Recovered.{Recovered}
 use Rattle.frs_recovery.specs.Answers.{IsRecovered}
 use Rattle.frs_recovery.specs.Faults.{HasRecoverCause, IsCauseOnDisk, GivesRecovered, Refuses}
-use Rattle.frs_recovery.specs.Wrong.{IsWrongFirst}
+use Rattle.frs_recovery.specs.FirstFault.{IsWrongFirst}
 use Rattle.frs_text.specs.Text.{Text, stat_text, stat_of, stat_found}
 use Rattle.std.specs.FinMap.{entries}
 use Rattle.frs_disk.specs.declared.disk.Disk.{Ghosts}

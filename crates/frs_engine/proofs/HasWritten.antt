@@ -20,13 +20,13 @@ use Rattle.frs_segment.specs.Stores.{SpellsAlike}
 use Rattle.frs_slots.specs.Views.{TakerView}
 use Rattle.frs_writer.specs.Groups.{GathersGroup, IsTooLong, joined_records}
 use Rattle.frs_writer.specs.Places.{number_of_newest, with_newest_grown}
-use Rattle.frs_writer.specs.Shown.{new_segment}
+use Rattle.frs_writer.specs.LogImages.{new_segment}
 use Rattle.frs_writer.specs.Writer.{WriterView, IsLog, IsWellOpened, WasEmpty}
 use Rattle.frs_writer.specs.declared.fault.WriteFault.{WriteFault}
 use Rattle.frs_writer.specs.declared.fault.WriteFault.TheVariants as write
-use Rattle.frs_writer.specs.Writing.{HoldsOnly, HoldsLog, HoldsFrom, HasWriteCause, Wrote, is_due, segments_after_roll}
+use Rattle.frs_writer.specs.Writing.{HoldsOnly, HoldsLog, HoldsFrom, HasWriteCause, WritesGroup, is_due, segments_after_roll}
 use Rattle.frs_disk.proofs.NoFiles.{no_entries}
-use Rattle.frs_segment.proofs.Order.{no_files}
+use Rattle.frs_segment.proofs.IsInOrder.{no_files}
 use Rattle.frs_engine.specs.Journal.{HasWritten, HoldsOneMore, log_of, IsOutsideStop, outside_fault, FaultHasCause}
 
 -- ---- lists
@@ -99,7 +99,7 @@ newest_rolled w = by (is_due w)
     by true = omega (arith, newest_last w.segments (places_of_segment (new_segment (number_of_newest w.segments + 1) (w.synced + 1))))
     by false = omega arith
 
-newest_wrote : {D : Type 0} (limit count : ℕ) (old new : WriterView D) → Wrote limit count old new → number_of_newest new.segments ≤ number_of_newest old.segments + 1
+newest_wrote : {D : Type 0} (limit count : ℕ) (old new : WriterView D) → WritesGroup limit count old new → number_of_newest new.segments ≤ number_of_newest old.segments + 1
 newest_wrote limit count old new w = subst (λ (s : List Segment). number_of_newest s ≤ number_of_newest old.segments + 1) (sym w.segments) (by (nat_lt 0 count))
   where
     by : (b : Bool) → number_of_newest (cond b (with_newest_grown count (length (joined_records w.group)) (segments_after_roll old)) (segments_after_roll old)) ≤ number_of_newest old.segments + 1
@@ -264,7 +264,7 @@ module _ {D : Type 0} (g : Ghosts D) where
   -- ---- the next record is written
 
   module _ (count : ℕ) (old new : WriterView D) (rs : List Record) (r : Record) (h : HasWritten g old rs) (known : old.taker.known ≡ length rs + 1) (sure : length rs + 1 ≤ old.taker.sure)
-      (front : IsPrefix new.taker.taken (map spelling (rs ++ r ∷ []))) (wrote : Wrote 256 count old new) (ended : new.ended ≡ None) (opened : new.opened ≡ old.opened) (noted : new.noted ≡ old.noted) (told : g.tells new.disk ≡ g.tells old.disk) where
+      (front : IsPrefix new.taker.taken (map spelling (rs ++ r ∷ []))) (wrote : WritesGroup 256 count old new) (ended : new.ended ≡ None) (opened : new.opened ≡ old.opened) (noted : new.noted ≡ old.noted) (told : g.tells new.disk ≡ g.tells old.disk) where
     all_are : map spelling (rs ++ r ∷ []) ≡ old.taker.taken ++ spelling r ∷ []
     all_are = map-append spelling rs (r ∷ []) ∙ ap (λ (l : List (List ℕ)). l ++ spelling r ∷ []) (sym h.taken)
 

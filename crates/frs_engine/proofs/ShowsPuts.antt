@@ -12,7 +12,7 @@ use Rattle.frs_history.specs.Histories.{each_alone}
 use Rattle.frs_history.specs.Machine.{Changes}
 use Rattle.frs_segment.specs.Segments.{File}
 use Rattle.frs_writer.specs.Writing.{HoldsOnly}
-use Rattle.frs_segment.proofs.Order.{more_half}
+use Rattle.frs_segment.proofs.IsInOrder.{more_half}
 use Rattle.frs_engine.specs.Promise.{puts, are_of_run, ShowsPuts, ShowsCommits, ShowsAcked}
 use Rattle.frs_engine.specs.Session.{IsLogOfRun, Extends}
 

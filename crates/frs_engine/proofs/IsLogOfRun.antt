@@ -15,8 +15,8 @@ use Rattle.frs_types.specs.Lawful.{StoredValue, LogState, settled_state, after_r
 use Rattle.frs_history.specs.Machine.{Changes}
 use Rattle.frs_engine.specs.Promise.{puts, puts_by, are_of_run}
 use Rattle.frs_engine.specs.Session.{record_drawn, put_drawn, IsLogOfRun}
-use Rattle.frs_engine.proofs.RunRecords.{run_goes_on, run_begins}
-use Rattle.frs_engine.proofs.Tables.{lsns_below, lsns_wider, lsns-put, lsn_below, least-le, least-pos, least-each, least-ge, from-put}
+use Rattle.frs_engine.proofs.AreOfRun.{run_goes_on, run_begins}
+use Rattle.frs_engine.proofs.TableOfEntries.{lsns_below, lsns_wider, lsns-put, lsn_below, least-le, least-pos, least-each, least-ge, from-put}
 
 -- ---- lists of records
 
