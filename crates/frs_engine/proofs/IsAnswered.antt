@@ -259,7 +259,7 @@ module _ {D : Type 0} (g : Ghosts D) (only_now : (disk : D) (c : Image) → g.le
   pub step_refused : new.events.items ≡ old.events.items → new.acks.items ≡ old.acks.items → IsStep g old new j j
   step_refused events acks =
       let same : commits_so_far new ≡ commits_so_far old =
-          ap (λ (s : List Line). commits_of_run s new.events.items) (ap (λ s. s.now) script) ∙ ap (commits_of_run old.script.now) events in
+      ap (λ (s : List Line). commits_of_run s new.events.items) (ap (λ s. s.now) script) ∙ ap (commits_of_run old.script.now) events in
       record {
         script = script;
         tells =

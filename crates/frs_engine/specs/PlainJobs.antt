@@ -84,34 +84,34 @@ pub record IsSaid {D : Type 0} (g : disks.Ghosts D) (plan : PlainPlan) (old new 
 
 module _ {D S : Type 0} (d : disks.Ghosts D) (s : sinks.Ghosts S) (plan : PlainPlan) (old new : D) (sink sink_after : S) (status : ℕ)
   where
-  -- What was decided and said of the store that was on the disk at the start, and that this was printed.
-  pub record WasLookedAt : Type 0 where
-    pub decided : ℕ
-    pub text : Text
-    pub said : IsSaid d plan old new decided text
-    pub reported : IsReported s text decided status sink sink_after
+    -- What was decided and said of the store that was on the disk at the start, and that this was printed.
+    pub record WasLookedAt : Type 0 where
+      pub decided : ℕ
+      pub text : Text
+      pub said : IsSaid d plan old new decided text
+      pub reported : IsReported s text decided status sink sink_after
 
-  -- Each status has its cause.
-  pub record HasPlainCauses : Type 0 where
-    pub known : IsTrue (is_plain_status status)
-    pub untroubled : status ≡ 0 → (d.faults new ≡ d.faults old) × (s.faults sink_after ≡ s.faults sink)
-    pub disk_failed : status ≡ 3 → Rose (d.faults old) (d.faults new)
-    pub sink_failed : status ≡ 6 → Rose (s.faults sink) (s.faults sink_after)
-    pub wrong : IsTrue (d.tells old) → (status ≡ 4) ⊎ (status ≡ 8)
-        → (fault : RecoverFault) × IsWrongFirst (entries (d.reads old)) fault × (status ≡ refusal_status fault)
-    pub only_later : status ≡ 10 → plan ≡ job.Compact
+    -- Each status has its cause.
+    pub record HasPlainCauses : Type 0 where
+      pub known : IsTrue (is_plain_status status)
+      pub untroubled : status ≡ 0 → (d.faults new ≡ d.faults old) × (s.faults sink_after ≡ s.faults sink)
+      pub disk_failed : status ≡ 3 → Rose (d.faults old) (d.faults new)
+      pub sink_failed : status ≡ 6 → Rose (s.faults sink) (s.faults sink_after)
+      pub wrong : IsTrue (d.tells old) → (status ≡ 4) ⊎ (status ≡ 8)
+          → (fault : RecoverFault) × IsWrongFirst (entries (d.reads old)) fault × (status ≡ refusal_status fault)
+      pub only_later : status ≡ 10 → plan ≡ job.Compact
 
-  -- What isn't built yet is answered so, what is wrong first is told, and what can be done is done, unless a count rose
-  -- or memory ran out.
-  pub record IsPlainComplete : Type 0 where
-    pub later : plan ≡ job.Compact → (status ≡ 10) ⊎ (status ≡ 9)
-    pub refused : IsTrue (d.tells old) → plan ≢ job.Compact
-        → (fault : RecoverFault) → IsWrongFirst (entries (d.reads old)) fault
-        → (status ≡ refusal_status fault) ⊎ (status ≡ 3) ⊎ (status ≡ 9)
-    pub done : IsTrue (d.tells old) → plan ≢ job.Compact
-        → (segments : List WholeSegment) (log : Log) → SpellsBy (entries (d.reads old)) segments log
-        → IsSteady (d.faults old) (d.faults new) → IsSteady (s.faults sink) (s.faults sink_after)
-        → (status ≡ 0) ⊎ (status ≡ 9)
+    -- What isn't built yet is answered so, what is wrong first is told, and what can be done is done, unless a count rose
+    -- or memory ran out.
+    pub record IsPlainComplete : Type 0 where
+      pub later : plan ≡ job.Compact → (status ≡ 10) ⊎ (status ≡ 9)
+      pub refused : IsTrue (d.tells old) → plan ≢ job.Compact
+          → (fault : RecoverFault) → IsWrongFirst (entries (d.reads old)) fault
+          → (status ≡ refusal_status fault) ⊎ (status ≡ 3) ⊎ (status ≡ 9)
+      pub done : IsTrue (d.tells old) → plan ≢ job.Compact
+          → (segments : List WholeSegment) (log : Log) → SpellsBy (entries (d.reads old)) segments log
+          → IsSteady (d.faults old) (d.faults new) → IsSteady (s.faults sink) (s.faults sink_after)
+          → (status ≡ 0) ⊎ (status ≡ 9)
 
 -- ---- what the code has before it prints
 

@@ -52,46 +52,46 @@ module _ {D : Type 0} (g : disks.Ghosts D) where
 
 module _ {D F S : Type 0} (d : disks.Ghosts D) (f : files.Ghosts F) (s : sinks.Ghosts S) (h : Handed D F) (sink sink_after : S) (status : ℕ)
   where
-  -- What was run is a legal history of the script, every put in it but at most the last is acknowledged, and a crash at
-  -- any moment leaves the maps after some of its commits, with all acknowledged ones. What was printed is its text.
-  pub record WasRun : Type 0 where
-    pub ending : Ending
-    pub script : List Line
-    pub events : List Event
-    pub acks : List Ack
-    pub run : IsRun d (status_of ending) h.disk h.disk_after script events acks
-    pub cause : IsCause d f h script events ending
-    pub several : one_file h.plan ≡ None → ending ≡ ending_of_plan h.plan
-    pub reported : IsReported s (text_of ending script events acks) (status_of ending) status sink sink_after
+    -- What was run is a legal history of the script, every put in it but at most the last is acknowledged, and a crash at
+    -- any moment leaves the maps after some of its commits, with all acknowledged ones. What was printed is its text.
+    pub record WasRun : Type 0 where
+      pub ending : Ending
+      pub script : List Line
+      pub events : List Event
+      pub acks : List Ack
+      pub run : IsRun d (status_of ending) h.disk h.disk_after script events acks
+      pub cause : IsCause d f h script events ending
+      pub several : one_file h.plan ≡ None → ending ≡ ending_of_plan h.plan
+      pub reported : IsReported s (text_of ending script events acks) (status_of ending) status sink sink_after
 
-  -- Each status has its cause.
-  pub record HasCauses : Type 0 where
-    pub known : IsTrue (is_status status)
-    pub disk_steady : status ≢ 3 → status ≢ 9 → d.faults h.disk_after ≡ d.faults h.disk
-    pub files_steady : status ≢ 5 → status ≢ 9 → f.faults h.files_after ≡ f.faults h.files
-    pub untroubled : status ≡ 0
-        → (d.faults h.disk_after ≡ d.faults h.disk) × (f.faults h.files_after ≡ f.faults h.files)
-        × (s.faults sink_after ≡ s.faults sink)
-    pub bad : status ≡ 2 → IsTrue (f.tells h.files) → (line : ℕ)
-        × (HasFault (bytes_handed f h) (BadLine line) ⊎ HasFault (bytes_handed f h) (TooLong line))
-    pub disk_failed : status ≡ 3 → Rose (d.faults h.disk) (d.faults h.disk_after)
-    pub files_failed : status ≡ 5 → Rose (f.faults h.files) (f.faults h.files_after)
-    pub sink_failed : status ≡ 6 → Rose (s.faults sink) (s.faults sink_after)
-    pub limited : status ≡ 8 → ((n : ℕ) × (one_file h.plan ≡ None) × (ending_of_plan h.plan ≡ Crowded n))
-        ⊎ (IsTrue (f.tells h.files) → (line : ℕ) × HasFault (bytes_handed f h) (TooMany line))
-    pub later : status ≡ 10 → IsTrue (f.tells h.files) → IsTrue (d.tells h.disk) → IsForLater d f h
+    -- Each status has its cause.
+    pub record HasCauses : Type 0 where
+      pub known : IsTrue (is_status status)
+      pub disk_steady : status ≢ 3 → status ≢ 9 → d.faults h.disk_after ≡ d.faults h.disk
+      pub files_steady : status ≢ 5 → status ≢ 9 → f.faults h.files_after ≡ f.faults h.files
+      pub untroubled : status ≡ 0
+          → (d.faults h.disk_after ≡ d.faults h.disk) × (f.faults h.files_after ≡ f.faults h.files)
+          × (s.faults sink_after ≡ s.faults sink)
+      pub bad : status ≡ 2 → IsTrue (f.tells h.files) → (line : ℕ)
+          × (HasFault (bytes_handed f h) (BadLine line) ⊎ HasFault (bytes_handed f h) (TooLong line))
+      pub disk_failed : status ≡ 3 → Rose (d.faults h.disk) (d.faults h.disk_after)
+      pub files_failed : status ≡ 5 → Rose (f.faults h.files) (f.faults h.files_after)
+      pub sink_failed : status ≡ 6 → Rose (s.faults sink) (s.faults sink_after)
+      pub limited : status ≡ 8 → ((n : ℕ) × (one_file h.plan ≡ None) × (ending_of_plan h.plan ≡ Crowded n))
+          ⊎ (IsTrue (f.tells h.files) → (line : ℕ) × HasFault (bytes_handed f h) (TooMany line))
+      pub later : status ≡ 10 → IsTrue (f.tells h.files) → IsTrue (d.tells h.disk) → IsForLater d f h
 
-  -- What can't be run is answered so, unless a count rose before it was known, or memory ran out; what can be run is
-  -- run to its end, unless a count rose or memory ran out.
-  pub record IsComplete : Type 0 where
-    pub several : one_file h.plan ≡ None → (status ≡ status_of (ending_of_plan h.plan)) ⊎ (status ≡ 9)
-    pub refused : IsTrue (f.tells h.files) → (fault : ScriptFault) → HasFault (bytes_handed f h) fault
-        → (status ≡ status_of (ending_by fault)) ⊎ (status ≡ 9) ⊎ (status ≡ 5)
-    pub others : IsTrue (f.tells h.files) → HasOthers (bytes_handed f h)
-        → (status ≡ 10) ⊎ (status ≡ 9) ⊎ (status ≡ 5)
-    pub for_later : IsTrue (f.tells h.files) → IsTrue (d.tells h.disk) → IsForLater d f h
-        → (status ≡ 10) ⊎ (status ≡ 9) ⊎ (status ≡ 3) ⊎ (status ≡ 5)
-    pub whole : IsTrue (f.tells h.files) → IsTrue (d.tells h.disk) → (script : List Line)
-        → SpellsScript (bytes_handed f h) script → keys (d.reads h.disk) ≡ []
-        → IsSteady (d.faults h.disk) (d.faults h.disk_after) → IsSteady (f.faults h.files) (f.faults h.files_after)
-        → IsSteady (s.faults sink) (s.faults sink_after) → (status ≡ 0) ⊎ (status ≡ 9)
+    -- What can't be run is answered so, unless a count rose before it was known, or memory ran out; what can be run is
+    -- run to its end, unless a count rose or memory ran out.
+    pub record IsComplete : Type 0 where
+      pub several : one_file h.plan ≡ None → (status ≡ status_of (ending_of_plan h.plan)) ⊎ (status ≡ 9)
+      pub refused : IsTrue (f.tells h.files) → (fault : ScriptFault) → HasFault (bytes_handed f h) fault
+          → (status ≡ status_of (ending_by fault)) ⊎ (status ≡ 9) ⊎ (status ≡ 5)
+      pub others : IsTrue (f.tells h.files) → HasOthers (bytes_handed f h)
+          → (status ≡ 10) ⊎ (status ≡ 9) ⊎ (status ≡ 5)
+      pub for_later : IsTrue (f.tells h.files) → IsTrue (d.tells h.disk) → IsForLater d f h
+          → (status ≡ 10) ⊎ (status ≡ 9) ⊎ (status ≡ 3) ⊎ (status ≡ 5)
+      pub whole : IsTrue (f.tells h.files) → IsTrue (d.tells h.disk) → (script : List Line)
+          → SpellsScript (bytes_handed f h) script → keys (d.reads h.disk) ≡ []
+          → IsSteady (d.faults h.disk) (d.faults h.disk_after) → IsSteady (f.faults h.files) (f.faults h.files_after)
+          → IsSteady (s.faults sink) (s.faults sink_after) → (status ≡ 0) ⊎ (status ≡ 9)

@@ -21,11 +21,11 @@ fn order(id: &MapId, key: &Key, entry: &Entry) -> Ordering
 fn position_of(entries: &[Entry], id: &MapId, key: &Key) -> Result<usize, usize>
     ensures { MatchResult result
         (λ at. (at < length entries.now)
-            × ((h : StoredValue) → put place_cmp (id.now, key.now) h (table entries.now)
-            ≡ slice_set (table entries.now) at ((id.now, key.now), h)))
+        × ((h : StoredValue) → put place_cmp (id.now, key.now) h (table entries.now)
+        ≡ slice_set (table entries.now) at ((id.now, key.now), h)))
         (λ at. (at ≤ length entries.now)
-            × ((h : StoredValue) → put place_cmp (id.now, key.now) h (table entries.now)
-            ≡ insert (table entries.now) at ((id.now, key.now), h))) }
+        × ((h : StoredValue) → put place_cmp (id.now, key.now) h (table entries.now)
+        ≡ insert (table entries.now) at ((id.now, key.now), h))) }
 {
     for (at, entry) in entries.iter().enumerate() {
         match order(id, key, entry) {

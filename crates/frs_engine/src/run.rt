@@ -56,12 +56,7 @@ fn run_on<D: Disk>(alloc: Global, disk: D, script: Script) -> Outcome<D>
 }
 
 // What a run of the plan does, before anything is printed.
-fn attempt<D: Disk, F: Files>(
-    alloc: Global,
-    plan: &RunPlan,
-    disk: D,
-    files: &mut F,
-) -> Outcome<D>
+fn attempt<D: Disk, F: Files>(alloc: Global, plan: &RunPlan, disk: D, files: &mut F) -> Outcome<D>
     requires { IsTrue (D.tells disk) → NoneRemovedAbove D.Disk disk }
 
     ensures run { IsRun D.Disk (status_of result.ending) disk result.disk

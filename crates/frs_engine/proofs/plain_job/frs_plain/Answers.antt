@@ -23,7 +23,7 @@ returns-clause-causes g c =
       sink_failed = λ is. sink_stopped f _ _ _ answers is;
       wrong = λ told is.
           let decided : finding_status f ≡ c.tell-status.result = decided_is _ _ _ _ answers
-              (λ six. ⊎_elim (λ four. omega (arith, four, six)) (λ eight. omega (arith, eight, six)) is) (λ nine. ⊎_elim (λ four. omega (arith, four, nine)) (λ eight. omega (arith, eight, nine)) is) in
+          (λ six. ⊎_elim (λ four. omega (arith, four, six)) (λ eight. omega (arith, eight, six)) is) (λ nine. ⊎_elim (λ four. omega (arith, four, nine)) (λ eight. omega (arith, eight, nine)) is) in
           let why = said.wrong (⊎_elim (λ four. inl (decided ∙ four)) (λ eight. inr (decided ∙ eight)) is) in
           (why.0, why.3 told, sym decided ∙ why.1);
       only_later = λ is. (said.later (decided_is _ _ _ _ answers (λ six. omega (arith, is, six)) (λ nine. omega (arith, is, nine)) ∙ is)).0;
