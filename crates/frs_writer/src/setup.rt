@@ -112,16 +112,16 @@ pub(crate) fn open_next<D: Disk>(
     number: u64,
     first: u64,
 ) -> Result<(), Fault>
-    requires there { IsTrue (D.tells disk.old)
-        → All (λ n. IsSome (get (D.reads disk.old) n) × (n < number)) half.now }
-    requires rising { IsTrue (D.tells disk.old) → IsStrictlyIncreasing half.now }
+    requires half { IsTrue (D.tells disk.old) → IsStrictlyIncreasing half.now
+        × All (λ n. IsSome (get (D.reads disk.old) n) × (n < number)) half.now }
     requires in_range { IsNumber number × IsNumber first }
     requires new { CanBeMade D.Disk disk.old number }
 
     ensures images { IsTrue (D.tells disk.old)
         → Within D.Disk disk.old disk.new (IsOpening half.now number first (D.may_leave disk.old)) }
     ensures made { OnOk result (IsTrue (D.tells disk.old)
-        → get (D.reads disk.new) number ≡ Some (empty_segment number first)) }
+        → (get (D.reads disk.new) number ≡ Some (empty_segment number first))
+        × All (λ n. get (D.reads disk.new) n ≡ None) half.now) }
     ensures durable { OnOk result (IsSynced D.Disk disk.new number) }
     ensures others { IsTrue (D.tells disk.old) → (q : ℕ) → number < q
         → get (D.reads disk.old) q ≡ None → get (D.reads disk.new) q ≡ None }

@@ -1,4 +1,5 @@
-use Rattle.std.proofs.Common.{IsTrue, sym, subst}
+use Rattle.std.proofs.Common.{◌≡◌, ◌∙◌, ◌<◌, ℕ, IsTrue, sym, subst, arith}
+use Rattle.std.proofs.lemmas.Result.{on_ok_weaker}
 use Rattle.frs_disk.specs.Disk.{Image}
 use Rattle.frs_disk.proofs.Frames.{goes_on_join, changes_go_on}
 use Rattle.frs_disk.proofs.Moments.{within_join}
@@ -31,3 +32,12 @@ returns-clause-frame g c =
     let d = g.D.Disk in
     goes_on_join d g.met.D.Disk.since_earlier c.args.disk.now c.remove_all.new.disk c.open_segment.new.disk c.remove_all.ensures.frame
     (changes_go_on d c.args.number c.remove_all.new.disk c.open_segment.new.disk c.open_segment.ensures.frame)
+
+pub returns-clause-made : goal.returns-clause-made
+returns-clause-made g c =
+    on_ok_weaker c.open_segment.result (λ made told.
+    let mid : IsTrue (g.D.Disk.tells c.remove_all.new.disk) = subst IsTrue (sym c.remove_all.ensures.frame.told) told in (
+      made mid,
+      λ k d lt. c.open_segment.ensures.frame.others mid _ (λ same. omega (arith, same, ((c.requires.half told).1 k d lt).1)) ∙ c.in_ok-remove_all.ensures.gone told k d lt,
+    ))
+    c.open_segment.ensures.made

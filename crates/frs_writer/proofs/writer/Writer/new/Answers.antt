@@ -12,16 +12,14 @@ returns-then-number-eq-NUMBER_LIMIT-clause-crash g c = (tt, unchanged_found g.D.
 pub returns-in_default-clause-crash : goal.returns-in_default-clause-crash
 returns-in_default-clause-crash g c = (tt, unchanged_found g.D.Disk g.met.D.Disk.only_now c.args.disk)
 
-pub open_next-requires-clause-there : goal.open_next-requires-clause-there
-open_next-requires-clause-there g c = λ told.
+pub open_next-requires-clause-half : goal.open_next-requires-clause-half
+open_next-requires-clause-half g c = λ told.
     let d = g.D.Disk in
-    let (segments, log, is) = c.requires.found told in
-    subst (All (λ (n : ℕ). IsSome (get (d.reads c.args.disk) n) × (n < c.args.found.now.greatest + 1))) (sym c.items.ensures) (found_half (d.reads c.args.disk) segments log c.args.found.now is (c.args.found.now.greatest + 1) refl)
-
-pub open_next-requires-clause-rising : goal.open_next-requires-clause-rising
-open_next-requires-clause-rising g c = λ told.
-    let (segments, log, is) = c.requires.found told in
-    subst IsStrictlyIncreasing (sym c.items.ensures) (found_rising (g.D.Disk.reads c.args.disk) segments log c.args.found.now is)
+    let (segments, log, is) = c.requires.found told in (
+      subst IsStrictlyIncreasing (sym c.items.ensures) (found_rising (d.reads c.args.disk) segments log c.args.found.now is),
+      subst (All (λ (n : ℕ). IsSome (get (d.reads c.args.disk) n) × (n < c.args.found.now.greatest + 1))) (sym c.items.ensures)
+          (found_half (d.reads c.args.disk) segments log c.args.found.now is (c.args.found.now.greatest + 1) refl),
+    )
 
 pub open_next-requires-clause-new : goal.open_next-requires-clause-new
 open_next-requires-clause-new g c = (
@@ -51,7 +49,7 @@ invariant_of-result g c =
       kept_is = kept_begun d g.met.D.Disk.as_read g.met.D.Disk.counts_now g.met.D.Disk.stays_absent c.one_log.ensures.log
           c.args.disk c.open_next.new.disk c.args.found.now c.requires.found c.requires.pending c.requires.greatest c.if-number-eq-NUMBER_LIMIT.false c.items.result.now c.items.ensures
           c.args.taker c.requires.taker c.next-first.result c.next-first.ensures.next c.next-first.ensures.first c.open_next.ensures.images
-          c.args.clients c.requires.clients c.open_next.ensures.frame.time.later c.open_next.ensures.frame.told c.in_default-open_next.ensures.durable c.in_default-open_next.ensures.made
+          c.args.clients c.requires.clients c.open_next.ensures.frame.time.later c.open_next.ensures.frame.told c.in_default-open_next.ensures.durable (λ told. (c.in_default-open_next.ensures.made told).0)
           c.open_next.ensures.others c.open_next.ensures.pending c.of-opened.result.value buffers.segments.items buffers.noted.items opened c.in-Ok.ensures;
       count = c.count-count_at_opening.ensures ∙ ap d.faults (sym opened);
       later = omega (arith, ap d.faults opened, c.in_default-open_next.ensures.cause);
@@ -72,6 +70,6 @@ returns-clause-durable g c = record {
   whole = durable_none g.D.Disk g.met.D.Disk.as_read g.met.D.Disk.counts_now g.met.D.Disk.stays_absent c.one_log.ensures.log
       c.args.disk c.open_next.new.disk c.args.found.now c.requires.found c.requires.pending c.requires.greatest c.if-number-eq-NUMBER_LIMIT.false c.items.result.now c.items.ensures
       c.args.taker c.requires.taker c.next-first.result c.next-first.ensures.next c.next-first.ensures.first c.open_next.ensures.images
-      c.args.clients c.requires.clients c.open_next.ensures.frame.time.later c.open_next.ensures.frame.told c.in_default-open_next.ensures.durable c.in_default-open_next.ensures.made
+      c.args.clients c.requires.clients c.open_next.ensures.frame.time.later c.open_next.ensures.frame.told c.in_default-open_next.ensures.durable (λ told. (c.in_default-open_next.ensures.made told).0)
       c.open_next.ensures.others c.open_next.ensures.pending;
 }
