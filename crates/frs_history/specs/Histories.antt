@@ -37,7 +37,8 @@ if_answers r Never = None
 -- the state in which the wait is noted, where the outcome is a wait and none was noted
 abbrev pub if_waits : State → ℕ → Outcome → Option State
 if_waits s c (Answers given after) = None
-if_waits s c (Waits_for lock) = if is_none (holder_at s.holders c).waits then Some (record s { holders = with_wait s.holders c lock }) else None
+if_waits s c (Waits_for lock) =
+    if is_none (holder_at s.holders c).waits then Some (record s { holders = with_wait s.holders c lock }) else None
 if_waits s c Never = None
 
 -- what f makes of the command, where there is one and its line has this number
@@ -51,17 +52,20 @@ is_active (Active sync changes) = true
 is_active Abandoned = false
 
 -- the end of a script abandons the active transaction, and its locks end
-abbrev pub ended : State → ℕ → State
-ended s c = with_client s c (record { done = (client s c).done; tx = Abandoned }) nobody
+abbrev pub state_at_end : State → ℕ → State
+state_at_end s c = with_client s c (record { done = (client s c).done; tx = Abandoned }) nobody
 
 -- the state after such an event of the client at the line, where it may come
 abbrev pub next_by : Scripts → State → ℕ → ℕ → What → Option State
-next_by scripts s c number (what.Answered r) = if_next number (λ x. if_answers r (outcome s c x)) (next_line scripts s c)
+next_by scripts s c number (what.Answered r) =
+    if_next number (λ x. if_answers r (outcome s c x)) (next_line scripts s c)
 next_by scripts s c number what.Waits = if_next number (λ x. if_waits s c (outcome s c x)) (next_line scripts s c)
 next_by scripts s c number what.End =
-    if (number == 0) && is_none (next_line scripts s c) && is_active (client s c).tx then Some (ended s c) else None
+    if (number == 0) && is_none (next_line scripts s c) && is_active (client s c).tx
+    then Some (state_at_end s c) else None
 next_by scripts s c number (what.Reappend id key) =
-    if (c == 0) && (number == 0) && is_some (at s.maps (id, key)) && is_free s.holders (OnKey id key) then Some s else None
+    if (c == 0) && (number == 0) && is_some (at s.maps (id, key)) && is_free s.holders (OnKey id key)
+    then Some s else None
 
 abbrev pub next : Scripts → State → Event → Option State
 next scripts s e = next_by scripts s e.client e.line e.what
@@ -87,7 +91,11 @@ pub record Moment : Type 0 where
   pub event : Event
 
 abbrev pub moment : Scripts → State → Event → Moment
-moment scripts s e = record { before = s; command = option_map (λ (l : Line). l.command) (next_line scripts s e.client); event = e }
+moment scripts s e = record {
+  before = s;
+  command = option_map (λ (l : Line). l.command) (next_line scripts s e.client);
+  event = e;
+}
 
 abbrev pub moments : Scripts → State → List Event → List Moment
 moments scripts s [] = []

@@ -1,4 +1,4 @@
 pub mod Histories
+pub mod HistoryView
 pub mod Machine
-pub mod Past
 pub mod Scripts

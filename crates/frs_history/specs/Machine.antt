@@ -41,14 +41,24 @@ newcomer = record { done = 0; tx = Outside }
 
 -- the state from which a session with n clients goes on
 abbrev pub start : Maps → ℕ → ℕ → State
-start m s n = record { maps = m; last = s; clients = newcomer ∷ replicate n newcomer; holders = nobody ∷ replicate n nobody }
+start m s n = record {
+  maps = m;
+  last = s;
+  clients = newcomer ∷ replicate n newcomer;
+  holders = nobody ∷ replicate n nobody;
+}
 
 abbrev pub client : State → ℕ → Client
 client s c = slice_index_or s.clients c newcomer
 
 -- the state with another client c, and other locks of it
 abbrev pub with_client : State → ℕ → Client → Holder → State
-with_client s c x h = record { maps = s.maps; last = s.last; clients = slice_set s.clients c x; holders = slice_set s.holders c h }
+with_client s c x h = record {
+  maps = s.maps;
+  last = s.last;
+  clients = slice_set s.clients c x;
+  holders = slice_set s.holders c h;
+}
 
 -- the scripts of clients 1, 2, ..; all others have none
 abbrev pub Scripts : Type 0
@@ -76,58 +86,68 @@ pub data Outcome : Type 0 where
   Never : Outcome
 
 -- c's command is answered: its wait ends, and one more command is done
-abbrev pub answers : State → ℕ → Reply → Transaction → List Lock → Outcome
-answers s c r tx locks = Answers r (with_client s c (record { done = (client s c).done + 1; tx = tx }) (record { locks = locks; waits = None }))
+abbrev pub answer_outcome : State → ℕ → Reply → Transaction → List Lock → Outcome
+answer_outcome s c r tx locks = Answers r
+    (with_client s c (record { done = (client s c).done + 1; tx = tx }) (record { locks = locks; waits = None }))
 
 -- the command reads, and keeps its lock inside a transaction
-abbrev pub reads : State → ℕ → Transaction → Lock → Reply → Outcome
-reads s c Outside lock r = answers s c r Outside []
-reads s c (Active sync changes) lock r = answers s c r (Active sync changes) (with_lock lock (holder_at s.holders c).locks)
-reads s c Abandoned lock r = Never
+abbrev pub read_outcome : State → ℕ → Transaction → Lock → Reply → Outcome
+read_outcome s c Outside lock r = answer_outcome s c r Outside []
+read_outcome s c (Active sync changes) lock r =
+    answer_outcome s c r (Active sync changes) (with_lock lock (holder_at s.holders c).locks)
+read_outcome s c Abandoned lock r = Never
 
 -- the command makes the change: outside a transaction in the maps, inside one in its list
-abbrev pub makes : State → ℕ → Transaction → Lock → Change (List ℕ) → Outcome
-makes s c Outside lock x = answers (record s { maps = table_after s.maps x }) c reply.Done Outside []
-makes s c (Active sync changes) lock x = answers s c reply.Done (Active sync (changes ++ x ∷ [])) (with_lock lock (holder_at s.holders c).locks)
-makes s c Abandoned lock x = Never
+abbrev pub change_outcome : State → ℕ → Transaction → Lock → Change (List ℕ) → Outcome
+change_outcome s c Outside lock x = answer_outcome (record s { maps = table_after s.maps x }) c reply.Done Outside []
+change_outcome s c (Active sync changes) lock x =
+    answer_outcome s c reply.Done (Active sync (changes ++ x ∷ [])) (with_lock lock (holder_at s.holders c).locks)
+change_outcome s c Abandoned lock x = Never
 
 abbrev pub value_or_none : Option (List ℕ) → Reply
 value_or_none None = reply.Absent
 value_or_none (Some value) = reply.Found value
 
 -- the outcome where nobody hinders c
-abbrev pub unhindered : State → ℕ → Transaction → Command → Outcome
-unhindered s c Abandoned command.Commit = answers s c reply.Abandoned Outside []
-unhindered s c Abandoned other = answers s c reply.Abandoned Abandoned []
-unhindered s c Outside (command.Begin sync) = answers s c reply.Done (Active sync []) []
-unhindered s c (Active sync changes) command.Commit = answers (record s { maps = table_after_all s.maps changes }) c reply.Done Outside []
-unhindered s c tx command.Snapshot = answers (record s { last = s.last + 1 }) c (reply.Snapshot (s.last + 1)) tx (holder_at s.holders c).locks
-unhindered s c tx (command.Get id key) = reads s c tx (OnKey id key) (value_or_none (at (maps_seen s c) (id, key)))
-unhindered s c tx (command.Put id key value) = makes s c tx (OnKey id key) (Set id key value)
-unhindered s c tx (command.Delete id) = makes s c tx (OnMap id) (Clear id)
-unhindered s c tx (command.Remove id key) =
-    if is_some (at (maps_seen s c) (id, key)) then makes s c tx (OnKey id key) (Take id key) else reads s c tx (OnKey id key) reply.Absent
-unhindered s c Outside command.Commit = Never
-unhindered s c (Active sync changes) (command.Begin again) = Never
+abbrev pub free_outcome : State → ℕ → Transaction → Command → Outcome
+free_outcome s c Abandoned command.Commit = answer_outcome s c reply.Abandoned Outside []
+free_outcome s c Abandoned other = answer_outcome s c reply.Abandoned Abandoned []
+free_outcome s c Outside (command.Begin sync) = answer_outcome s c reply.Done (Active sync []) []
+free_outcome s c (Active sync changes) command.Commit =
+    answer_outcome (record s { maps = table_after_all s.maps changes }) c reply.Done Outside []
+free_outcome s c tx command.Snapshot =
+    answer_outcome (record s { last = s.last + 1 }) c (reply.Snapshot (s.last + 1)) tx (holder_at s.holders c).locks
+free_outcome s c tx (command.Get id key) =
+    read_outcome s c tx (OnKey id key) (value_or_none (at (maps_seen s c) (id, key)))
+free_outcome s c tx (command.Put id key value) = change_outcome s c tx (OnKey id key) (Set id key value)
+free_outcome s c tx (command.Delete id) = change_outcome s c tx (OnMap id) (Clear id)
+free_outcome s c tx (command.Remove id key) =
+    if is_some (at (maps_seen s c) (id, key)) then change_outcome s c tx (OnKey id key) (Take id key)
+    else read_outcome s c tx (OnKey id key) reply.Absent
+free_outcome s c Outside command.Commit = Never
+free_outcome s c (Active sync changes) (command.Begin again) = Never
 
 -- the lock that the command needs
-abbrev pub needed : Transaction → Command → Option Lock
-needed Abandoned other = None
-needed Outside (command.Get id key) = None
-needed tx (command.Get id key) = Some (OnKey id key)
-needed tx (command.Put id key value) = Some (OnKey id key)
-needed tx (command.Remove id key) = Some (OnKey id key)
-needed tx (command.Delete id) = Some (OnMap id)
-needed tx other = None
+abbrev pub lock_needed : Transaction → Command → Option Lock
+lock_needed Abandoned other = None
+lock_needed Outside (command.Get id key) = None
+lock_needed tx (command.Get id key) = Some (OnKey id key)
+lock_needed tx (command.Put id key value) = Some (OnKey id key)
+lock_needed tx (command.Remove id key) = Some (OnKey id key)
+lock_needed tx (command.Delete id) = Some (OnMap id)
+lock_needed tx other = None
 
 -- c is hindered: it waits, unless a ring would close; then its transaction is abandoned
-abbrev pub hindered : State → ℕ → Lock → Outcome
-hindered s c lock = if ring s.holders c lock then answers s c reply.Deadlock Abandoned [] else Waits_for lock
+abbrev pub hindered_outcome : State → ℕ → Lock → Outcome
+hindered_outcome s c lock =
+    if ring s.holders c lock then answer_outcome s c reply.Deadlock Abandoned [] else Waits_for lock
 
 abbrev pub outcome_at : State → ℕ → Command → Option Lock → Outcome
-outcome_at s c x None = unhindered s c (client s c).tx x
-outcome_at s c x (Some lock) = if is_none (slice_get (hinderers s.holders c lock) 0) then unhindered s c (client s c).tx x else hindered s c lock
+outcome_at s c x None = free_outcome s c (client s c).tx x
+outcome_at s c x (Some lock) =
+    if is_none (slice_get (hinderers s.holders c lock) 0) then free_outcome s c (client s c).tx x
+    else hindered_outcome s c lock
 
 -- the outcome of c's command in the state s
 abbrev pub outcome : State → ℕ → Command → Outcome
-outcome s c x = outcome_at s c x (needed (client s c).tx x)
+outcome s c x = outcome_at s c x (lock_needed (client s c).tx x)

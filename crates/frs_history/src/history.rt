@@ -14,9 +14,9 @@ pub struct History {
 
 impl Model for History {
     ghost use Rattle.std.specs.Prelude.{vec_capacity, vec_len, ◌-◌};
-    ghost use Rattle.frs_history.specs.Past.{Past};
+    ghost use Rattle.frs_history.specs.HistoryView.{HistoryView};
 
-    ghost Value = { Past };
+    ghost Value = { HistoryView };
 
     ghost view = { λ a. record { events = a.events.items; room = vec_capacity a.events - vec_len a.events } };
 }
