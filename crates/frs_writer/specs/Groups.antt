@@ -8,6 +8,7 @@ use Rattle.frs_disk.specs.declared.disk.Fault.{Fault}
 use Rattle.frs_disk.specs.Disk.{bytes_at}
 use Rattle.frs_disk.specs.Frames.{IsSynced, Within, ChangesOneFile}
 use Rattle.frs_types.specs.declared.limits.TheConstants.{NUMBER_LIMIT}
+use Rattle.frs_frame.specs.declared.encoding.TheConstants.{RECORD_LIMIT}
 use Rattle.frs_segment.specs.declared.format.TheConstants.{BODY_LIMIT, CHUNK_HEAD}
 use Rattle.frs_segment.specs.declared.layout.Segment.{Segment}
 use Rattle.frs_writer.specs.Gates.{IsShut, sealed_chunk}
@@ -46,7 +47,7 @@ pub record GathersGroup (limit : ℕ) (before now : TakerView) (kept still : Opt
   pub group_is : group ++ option_to_list still ≡ option_to_list kept ++ taken
   pub most : length group ≤ limit
   pub fits : length (joined_records group) ≤ BODY_LIMIT
-  pub too_long : IfSome still (λ bytes. IsTooLong group bytes × (length bytes ≤ 65883))
+  pub too_long : IfSome still (λ bytes. IsTooLong group bytes × (length bytes ≤ RECORD_LIMIT))
   pub stops : (length group ≡ limit) ⊎ ((still ≡ None) → now.known ≡ length now.taken)
 
 -- the chunk has these records, and its head isn't written yet
@@ -66,7 +67,7 @@ pub record StopsGroup (before now : TakerView) (still : Option (List ℕ)) (chun
   pub chunk_is : after ≡ chunk
   pub why : ((still ≡ None) × (now ≡ before) × (before.known ≡ length before.taken))
       ⊎ ((bytes : List ℕ) × (still ≡ Some bytes) × TookRecord before bytes now × (next_taken before < NUMBER_LIMIT)
-      × (BODY_LIMIT + CHUNK_HEAD < length chunk.bytes + length bytes) × (length bytes ≤ 65883))
+      × (BODY_LIMIT + CHUNK_HEAD < length chunk.bytes + length bytes) × (length bytes ≤ RECORD_LIMIT))
 
 -- ---- the disk
 

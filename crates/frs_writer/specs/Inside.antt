@@ -13,8 +13,7 @@ view_of a = record {
   disk = a.disk;
   taker = a.taker;
   kept = a.kept;
-  segments =
-      a.segments.items;
+  segments = a.segments.items;
   noted = a.noted.items;
   synced = a.synced;
   ended = a.ended;

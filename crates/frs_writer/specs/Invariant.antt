@@ -1,5 +1,5 @@
--- What always holds of a writer: its numbers fit each other, and each image that a crash may leave shows its log as far as
--- it is durable.
+-- What always holds of a writer: its numbers fit each other, and each image that a crash may leave shows its log as
+-- far as it is durable.
 use Rattle.std.specs.Prelude.{◌≡◌, ℕ, ◌+◌, ◌-◌, ◌<◌, ◌≤◌, List, [], ◌∷◌, ◌++◌, length, map, take, None, IsTrue, All}
 use Rattle.std.specs.Option.{option_to_list}
 use Rattle.std.specs.FinMap.{entries, get}
@@ -61,9 +61,9 @@ ShowsFrom alone fresh synced log image = (n : ℕ) × (synced ≤ n) × (n < nex
 abbrev pub durable_of : {D : Type 0} → WriterView D → Log → Log
 durable_of w log = record log { records = take (w.synced + 1 - log.first) log.records }
 
--- Each image that a crash may leave shows what is durable. While nothing was cut short it shows that and nothing more, the
--- newest file is the same in all of them, and the writer's segments are those that are read. The log stands alone where it
--- was empty at the opening.
+-- Each image that a crash may leave shows what is durable. While nothing was cut short it shows that and nothing more,
+-- the newest file is the same in all of them, and the writer's segments are those that are read. The log stands alone
+-- where it was empty at the opening.
 pub record ShowsDurable {D : Type 0} (g : Ghosts D) (w : WriterView D) (log : Log) : Type 0 where
   pub next_is : next_lsn log ≡ next_taken w.taker
   pub each : (c : Image) → g.may_leave w.disk c

@@ -9,18 +9,18 @@ use Rattle.frs_segment.specs.Order.{IsInOrder, firsts_of}
 use Rattle.frs_segment.specs.Stores.{numbers_of}
 use Rattle.frs_segment.specs.Segments.{FileList, WholeSegment, IsSegment, segment_spelling, open_files, follow_from, first_of, all_records}
 
--- All files are open and have the numbers from 1 on, the next file has this number, and it is to begin at this LSN, above
--- those at which the segments begin.
+-- All files are open and have the numbers from 1 on, the next file has this number, and it is to begin at this LSN,
+-- above those at which the segments begin.
 pub record TakesNext (number next : ℕ) (image : FileList) (segments : List WholeSegment) : Type 0 where
   pub all_open : open_files image ≡ image
   pub numbers : numbers_of image ≡ range_with_len 1 (length image)
   pub number_is : number ≡ length image + 1
   pub rise : IsStrictlyIncreasing (firsts_of segments ++ next ∷ [])
 
--- The newest open files of the image are segments that follow each other, and their records are these from the LSN first
--- on, behind earlier ones. Where the log stands alone no other file is open, none is earlier, and the first record has the
--- LSN 1, or would have it. Without a record it stands alone. Where the store was fresh its files are in order, and at
--- most one is half-made.
+-- The newest open files of the image are segments that follow each other, and their records are these from the LSN
+-- first on, behind earlier ones. Where the log stands alone no other file is open, none is earlier, and the first
+-- record has the LSN 1, or would have it. Without a record it stands alone. Where the store was fresh its files are in
+-- order, and at most one is half-made.
 pub record ShowsLog (alone fresh : Type 0) (image : FileList) (first : ℕ) (records : List Record) : Type 0 where
   pub rising : IsTrue (is_sorted nat_cmp image)
   pub older : FileList
@@ -40,8 +40,8 @@ pub record ShowsLog (alone fresh : Type 0) (image : FileList) (first : ℕ) (rec
 abbrev pub file_of : WholeSegment → ℕ × List ℕ
 file_of s = (s.number, segment_spelling s ++ 0 ∷ [])
 
--- The same, and the last file is this segment: nothing else stands behind its closed gate or above it. Where the store was
--- fresh this one is the next file behind those in front, which are all open.
+-- The same, and the last file is this segment: nothing else stands behind its closed gate or above it. Where the store
+-- was fresh this one is the next file behind those in front, which are all open.
 pub record EndsWithSegment (alone fresh : Type 0) (image : FileList) (first : ℕ) (records : List Record)
     (last : WholeSegment) : Type 0 where
   pub rising : IsTrue (is_sorted nat_cmp image)

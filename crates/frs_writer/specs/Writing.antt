@@ -36,8 +36,10 @@ is_due w = nat_le FILE_LIMIT (length_of_newest w.segments) && nat_lt (w.synced +
 
 -- the segments once the next one was made where it is due
 abbrev pub segments_after_roll : {D : Type 0} → WriterView D → List Segment
-segments_after_roll w = if is_due w then w.segments
-    ++ places_of_segment (new_segment (number_of_newest w.segments + 1) (w.synced + 1)) ∷ [] else w.segments
+segments_after_roll w =
+    if is_due w
+    then w.segments ++ places_of_segment (new_segment (number_of_newest w.segments + 1) (w.synced + 1)) ∷ []
+    else w.segments
 
 -- The next segment was made where it is due, and now none is.
 pub record IsRolled {D : Type 0} (old new : WriterView D) : Type 0 where
@@ -54,23 +56,23 @@ pub record TakesMore {D : Type 0} (old new : WriterView D) : Type 0 where
 
 -- ---- a group
 
--- A group was written as one chunk: what was kept before and what was then taken. Nothing was written only where nothing
--- was kept and nothing more was known.
+-- A group was written as one chunk: what was kept before and what was then taken. Nothing was written only where
+-- nothing was kept and nothing more was known.
 pub record WritesGroup {D : Type 0} (limit count : ℕ) (old new : WriterView D) : Type 0 where
   pub group : List (List ℕ)
   pub gathers : GathersGroup limit old.taker new.taker old.kept new.kept group
   pub counted : count ≡ length group
   pub none : count ≡ 0 → (old.kept ≡ None) × (new.kept ≡ None)
   pub synced : new.synced ≡ old.synced + count
-  pub segments : new.segments
-      ≡ (if nat_lt 0 count then with_newest_grown count (length (joined_records group))
-      (segments_after_roll old) else segments_after_roll old)
+  pub segments : new.segments ≡ (if nat_lt 0 count
+      then with_newest_grown count (length (joined_records group)) (segments_after_roll old)
+      else segments_after_roll old)
 
 -- ---- why a call was refused
 
--- `Disk` only where the count has risen in the call, `Broken` only where it had risen before, `NumberLimit` only where a
--- new segment would have the number 2^62; each but the first leaves the writer as it was, and want of memory does so too
--- unless it has cut a write short.
+-- `Disk` only where the count has risen in the call, `Broken` only where it had risen before, `NumberLimit` only where
+-- a new segment would have the number 2^62; each but the first leaves the writer as it was, and want of memory does so
+-- too unless it has cut a write short.
 abbrev pub HasWriteCause : {D X : Type 0} → Ghosts D → WriterView D → WriterView D → Result X WriteFault → Type 0
 HasWriteCause g old new (Ok count) = (g.faults new.disk ≡ g.faults old.disk) × (old.ended ≡ None) × (new.ended ≡ None)
 HasWriteCause g old new (Err Disk) = Rose (g.faults old.disk) (g.faults new.disk) × (old.ended ≡ None)
@@ -94,8 +96,8 @@ HasPutCause g not_given old new (Err (NumberLimit number)) = ⊥
 HasPutCause g not_given old new (Err Memory) =
     (g.faults new.disk ≡ g.faults old.disk) × (((new ≡ old) × not_given) ⊎ (new.ended ≡ Some fault.Memory))
 
--- Of the opening, where the new segment has this number: `Disk` only where the count has risen, and with any other answer
--- it is as it was; `NumberLimit` exactly where the number is 2^62, and the disk is then as it was.
+-- Of the opening, where the new segment has this number: `Disk` only where the count has risen, and with any other
+-- answer it is as it was; `NumberLimit` exactly where the number is 2^62, and the disk is then as it was.
 abbrev pub HasRefusalCause : {D : Type 0} → Ghosts D → D → ℕ → D → WriteFault → Type 0
 HasRefusalCause g disk number left Disk = Rose (g.faults disk) (g.faults left) × (number < NUMBER_LIMIT)
 HasRefusalCause g disk number left (Broken at_opening count) = ⊥
@@ -145,9 +147,9 @@ HoldsFrom fresh synced log c = (n : ℕ) × (synced ≤ n) × (n < next_lsn log)
 abbrev pub OfPlacedLog : {D : Type 0} → Ghosts D → WriterView D → (Log → Type 0) → Type 0
 OfPlacedLog g w P = IsWellOpened g w.opened → (log : Log) → IsLog g w log → IsPlaced log → P log
 
--- What a crash since the start leaves of the log. Each image spells it up to a record that isn't before the last one durable
--- at the start. Where the log was empty at the opening, all open files are its segments, from LSN 1 on; where there was no
--- file then, its files are in order, and at most the newest is half-made.
+-- What a crash since the start leaves of the log. Each image spells it up to a record that isn't before the last one
+-- durable at the start. Where the log was empty at the opening, all open files are its segments, from LSN 1 on; where
+-- there was no file then, its files are in order, and at most the newest is half-made.
 pub record LeavesLog {D : Type 0} (g : Ghosts D) (old new : WriterView D) : Type 0 where
   pub images : IsTrue (g.tells old.disk)
       → OfPlacedLog g new (λ log. Within g old.disk new.disk (SpellsFrom old.synced log))
@@ -160,9 +162,9 @@ LeavesShown g old new = IsTrue (g.tells old.disk) → OfPlacedLog g new (λ log.
     Within g old.disk new.disk
     (λ c. ShowsFrom (WasEmpty g new.opened) (LeftNoFile g new.opened) old.synced log (entries c)))
 
--- What a crash leaves once a group was written. Each image spells the log up to the last durable record, and has the newest
--- file as it is read. Where the log was empty at the opening its files are the log's, and where there was no file then,
--- none is half-made.
+-- What a crash leaves once a group was written. Each image spells the log up to the last durable record, and has the
+-- newest file as it is read. Where the log was empty at the opening its files are the log's, and where there was no
+-- file then, none is half-made.
 pub record IsDurable {D : Type 0} (g : Ghosts D) (old new : WriterView D) : Type 0 where
   pub spelled : IsTrue (g.tells old.disk) → OfPlacedLog g new (λ log.
       (c : Image) → g.may_leave new.disk c → Spells (entries c) (log_up_to new.synced log))
@@ -173,8 +175,8 @@ pub record IsDurable {D : Type 0} (g : Ghosts D) (old new : WriterView D) : Type
 
 -- ---- what a crash leaves of the files that were found
 
--- What a crash since the start leaves while a writer is opened. Each image spells what was read at the start. Where this was
--- nothing, all open files are segments without a record; where there was no file, there is at most one.
+-- What a crash since the start leaves while a writer is opened. Each image spells what was read at the start. Where
+-- this was nothing, all open files are segments without a record; where there was no file, there is at most one.
 pub record LeavesFound {D : Type 0} (g : Ghosts D) (old new : D) : Type 0 where
   pub images : IsTrue (g.tells old) → IsWellOpened g old → (log : Log) → Spells (entries (g.reads old)) log
       → Within g old new (λ c. Spells (entries c) log)

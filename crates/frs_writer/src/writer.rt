@@ -155,7 +155,8 @@ impl<D: Disk> Writer<D> {
         requires { AreOfOneRing (E.drawer end.old) self.old.taker }
         ensures one_ring { AreOfOneRing (E.drawer end.new) self.new.taker }
         ensures prefix { IsPrefix self.new.taker.taken (E.drawer end.new).drawn }
-        ensures known { (min self.new.taker.sure (length (E.drawer end.new).drawn) ≤ self.new.taker.known)
+        ensures known { (min self.new.taker.sure (length (E.drawer end.new).drawn)
+            ≤ self.new.taker.known)
             × (self.new.taker.known ≤ length (E.drawer end.new).drawn) }
         ensures taker { (self.new
             ≡ record self.old { taker = record self.old.taker { known = self.new.taker.known } })
