@@ -1,11 +1,10 @@
 -- One record more of a log that is read from its newest record to its oldest.
-use Rattle.std.proofs.Common.{◌≡◌, ℕ, zero, suc, ◌+◌, ◌-◌, ◌<◌, ◌≤◌, List, [], ◌∷◌, ◌++◌, Option, Some, length, refl, sym, ap, subst, ◌∙◌, arith, append_assoc, length-append, IsTrue, ◌&&◌, drop}
-use Rattle.std.specs.Prelude.{unwrap_or, option_map, nat_lt, nat_le, Result, Ok, Err, OnOk}
+use Rattle.std.proofs.Common.{◌≡◌, ℕ, zero, suc, ◌+◌, ◌-◌, ◌<◌, ◌≤◌, List, [], ◌∷◌, ◌++◌, Option, Some, length, refl, sym, ap, subst, ◌∙◌, arith, append_assoc, length-append, IsTrue, drop}
+use Rattle.std.specs.Prelude.{unwrap_or, option_map, Result, Ok, Err, OnOk}
 use Rattle.frs_types.specs.declared.memory.NoMemory.{NoMemory}
 use Rattle.std.specs.List.{last_or}
-use Rattle.std.proofs.lemmas.Bool.{and_parts, leb-true}
 use Rattle.frs_types.specs.declared.record.Record.{Record}
-use Rattle.frs_types.specs.Records.{Numbered, is_allowed, are_allowed_from, kind_allows, has_words, numbered_records_from, named_lowest}
+use Rattle.frs_types.specs.Records.{Numbered, is_allowed, are_allowed_from, numbered_records_from, named_lowest}
 use Rattle.std.specs.Prelude.{min}
 use Rattle.std.proofs.lemmas.List.Sums.{fold-append}
 use Rattle.frs_types.specs.declared.record.Entry.{Entry}

@@ -1,5 +1,5 @@
 -- Where a log begins: whether its lowest stands in the oldest of its segments.
-use Rattle.std.proofs.Common.{◌&&◌, ◌≡◌, inl, inr, ℕ, ◌+◌, ◌^◌, ◌-◌, ◌≤◌, Bool, true, false, not, List, [], ◌∷◌, ◌++◌, Option, Some, None, length, get_or, map, reverse, refl, sym, ap, ◌∙◌, arith, IsTrue}
+use Rattle.std.proofs.Common.{◌&&◌, ◌≡◌, inl, inr, ℕ, ◌+◌, ◌^◌, ◌-◌, ◌≤◌, Bool, true, false, not, List, [], ◌∷◌, Option, Some, None, length, get_or, map, reverse, refl, sym, ap, ◌∙◌, arith, IsTrue}
 use Rattle.std.specs.Prelude.{unwrap_or, option_map, flat_map}
 use Rattle.std.specs.List.{AllByRecursion, last_or, list_all, slice_get}
 use Rattle.std.proofs.Math.Dec.{ltb, leb}

@@ -1,7 +1,6 @@
 -- With the files of a store one thing is wrong first, or nothing is.
-use Rattle.std.proofs.Common.{◌≡◌, inl, inr, ℕ, ◌-◌, not, List, [], ◌∷◌, ◌++◌, Option, Some, None, refl, sym, ap, subst, ◌∙◌, append_assoc, arith, IsTrue}
-use Rattle.std.specs.Prelude.{unwrap_or, option_map}
-use Rattle.std.specs.List.{AllZip, last_or, list_all}
+use Rattle.std.proofs.Common.{◌≡◌, inl, inr, ℕ, ◌-◌, not, List, [], ◌∷◌, ◌++◌, Some, refl, sym, ap, subst, ◌∙◌, append_assoc, arith, IsTrue}
+use Rattle.std.specs.List.{AllZip, list_all}
 use Rattle.std.proofs.Math.Dec.{ltb, leb, eqb}
 use Rattle.std.proofs.lemmas.Bool.{ltb-true, leb-true, and_parts, both_ways, not-true}
 use Rattle.std.proofs.lemmas.List.{append-nil}

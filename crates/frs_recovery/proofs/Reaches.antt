@@ -6,7 +6,7 @@ use Rattle.std.proofs.Math.Dec.{ltb, leb, eqb}
 use Rattle.std.proofs.lemmas.Bool.{ltb-false, lt-ltb, leb-true, le-leb, eqb-true, and_parts, and_from, and_cases, both_ways}
 use Rattle.frs_types.specs.declared.record.Record.{Record}
 use Rattle.frs_types.specs.Records.{is_allowed, are_allowed_from, named_lowest}
-use Rattle.frs_segment.specs.Segments.{FileList, WholeSegment, records_of, all_records, end_of, are_chunks, is_chunk, follow_from, first_alone_reaches, are_enough}
+use Rattle.frs_segment.specs.Segments.{FileList, WholeSegment, records_of, all_records, end_of, follow_from, first_alone_reaches, are_enough}
 use Rattle.frs_recovery.specs.Descent.{IsMeant}
 use Rattle.frs_recovery.specs.FirstFault.{goes_further}
 use Rattle.frs_types.proofs.Allowed.{allowed_joined, lowest_at_most, lowest_behind_one}

@@ -1,13 +1,11 @@
 -- Lists of files by rising number.
-use Rattle.std.proofs.Common.{Ordering, Less, Equal, Greater, ◌≡◌, ◌≢◌, ℕ, ◌<◌, ◌&&◌, Bool, true, false, cond, T, List, [], ◌∷◌, ◌++◌, Some, refl, ap, ◌∙◌, arith, IsTrue}
+use Rattle.std.proofs.Common.{◌≡◌, ◌≢◌, ℕ, ◌<◌, Bool, cond, T, List, [], ◌∷◌, ◌++◌, Some, refl, ap, ◌∙◌, arith, IsTrue}
 use Rattle.std.specs.List.{list_all}
 use Rattle.std.proofs.Math.Dec.{ltb}
 use Rattle.std.proofs.lemmas.Bool.{ne_eqb, eq-eqb, lt-ltb, and_from}
-use Rattle.std.specs.Ordering.{MatchOrdering, nat_cmp, is_lt}
-use Rattle.std.specs.Cmp.{unsigned_tied, ranks}
-use Rattle.std.specs.FinMap.{entries, entries_sorted}
+use Rattle.std.specs.Ordering.{nat_cmp}
+use Rattle.std.specs.Cmp.{unsigned_tied}
 use Rattle.std.specs.FinMap.Entries.{find, below_all, is_sorted}
-use Rattle.frs_disk.specs.Disk.{Image}
 use Rattle.frs_segment.specs.Segments.{File}
 use Rattle.frs_types.proofs.Truth.{and_first, and_second, less_by_cmp}
 

@@ -1,15 +1,12 @@
 -- What the answer of a scan, and the fault of a chunk, mean to a recovery.
-use Rattle.std.proofs.Common.{◌&&◌, ◌≡◌, inl, inr, ℕ, ◌+◌, ◌^◌, Bool, true, false, not, cond, List, length, Result, Ok, Err, Some, refl, sym, subst, IsTrue}
+use Rattle.std.proofs.Common.{◌≡◌, ℕ, Bool, true, false, List, Result, Ok, Err, Some, refl, sym, subst, IsTrue}
 use Rattle.std.specs.Prelude.{IfErr}
-use Rattle.std.proofs.Math.Dec.{ltb, leb, eqb}
 use Rattle.std.proofs.lemmas.Bool.{false≢true}
-use Rattle.std.specs.Int.{w32, w64}
 use Rattle.frs_types.specs.declared.record.Record.{Record}
-use Rattle.frs_segment.specs.declared.layout.ChunkPlace.{ChunkPlace}
 use Rattle.frs_segment.specs.declared.layout.Segment.{Segment}
 use Rattle.frs_segment.specs.declared.fault.ScanFault.{ScanFault}
 use Rattle.frs_segment.specs.declared.fault.ScanFault.TheVariants.{HalfMade, BadHeader, BadChunk, NumberLimit, Disk, Memory}
-use Rattle.frs_segment.specs.Segments.{File, WholeSegment, IsSegment, segment_spelling, is_open_file, end_of}
+use Rattle.frs_segment.specs.Segments.{WholeSegment, IsSegment}
 use Rattle.frs_segment.specs.Faults.{GivesScanned}
 use Rattle.frs_segment.specs.Scanning.{places_of_segment}
 use Rattle.frs_recovery.specs.declared.fault.RecoverFault.{RecoverFault}
