@@ -28,8 +28,8 @@ abbrev pub bytes_of_plan : RunPlan → (List ℕ → Option (List ℕ)) → Opti
 bytes_of_plan (Scripts (name ∷ [])) file = file name
 bytes_of_plan other file = None
 
--- How a run of a plan without one file ends: with more than `CLIENT_LIMIT` clients it is refused, and with more than one it isn't
--- built yet.
+-- How a run of a plan without one file ends: with more than `CLIENT_LIMIT` clients it is refused, and with more than
+-- one it isn't built yet.
 abbrev pub ending_of_plan : RunPlan → Ending
 ending_of_plan (Scripts names) = if nat_lt CLIENT_LIMIT (length names) then Crowded (length names) else Later
 ending_of_plan (Demo clients count) = Later

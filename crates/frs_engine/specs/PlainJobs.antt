@@ -65,25 +65,27 @@ job_text job.Compact segments log = last_line last.Later
 abbrev pub is_decided : ℕ → Bool
 is_decided n = (n == 0) || (n == 3) || (n == 4) || (n == 8) || (n == 9) || (n == 10)
 
--- What is decided and said of the store that was on a disk, before anything is printed: which status, and which text.
-pub record IsSaid {D : Type 0} (g : disks.Ghosts D) (plan : PlainPlan) (old new : D) (decided : ℕ) (text : Text) : Type 0 where
-  pub known : IsTrue (is_decided decided)
-  pub later : decided ≡ 10 → (plan ≡ job.Compact) × (text ≡ last_line last.Later)
-  pub not_yet : plan ≡ job.Compact → decided ≡ 10
-  pub done : decided ≡ 0 → IsTrue (g.tells old)
-      → (segments : List WholeSegment) × (log : Log) × SpellsBy (entries (g.reads old)) segments log
-      × (text ≡ job_text plan segments log)
-  pub wrong : (decided ≡ 4) ⊎ (decided ≡ 8)
-      → (fault : RecoverFault) × (decided ≡ refusal_status fault) × (text ≡ refusal_text fault)
-      × (IsTrue (g.tells old) → IsWrongFirst (entries (g.reads old)) fault)
-  pub failed : decided ≡ 3 → (g.faults old ≤ g.faults new) × Rose (g.faults old) (g.faults new) × (text ≡ refusal_text Disk)
-  pub memory : decided ≡ 9 → text ≡ refusal_text Memory
-  pub steady : decided ≢ 3 → g.faults new ≡ g.faults old
+module _ {D : Type 0} (g : disks.Ghosts D) (plan : PlainPlan) (old new : D) where
+  -- What is decided and said of the store that was on a disk, before anything is printed: which status, and which text.
+  pub record IsSaid (decided : ℕ) (text : Text) : Type 0 where
+    pub known : IsTrue (is_decided decided)
+    pub later : decided ≡ 10 → (plan ≡ job.Compact) × (text ≡ last_line last.Later)
+    pub not_yet : plan ≡ job.Compact → decided ≡ 10
+    pub done : decided ≡ 0 → IsTrue (g.tells old)
+        → (segments : List WholeSegment) × (log : Log) × SpellsBy (entries (g.reads old)) segments log
+        × (text ≡ job_text plan segments log)
+    pub wrong : (decided ≡ 4) ⊎ (decided ≡ 8)
+        → (fault : RecoverFault) × (decided ≡ refusal_status fault) × (text ≡ refusal_text fault)
+        × (IsTrue (g.tells old) → IsWrongFirst (entries (g.reads old)) fault)
+    pub failed : decided ≡ 3
+        → (g.faults old ≤ g.faults new) × Rose (g.faults old) (g.faults new) × (text ≡ refusal_text Disk)
+    pub memory : decided ≡ 9 → text ≡ refusal_text Memory
+    pub steady : decided ≢ 3 → g.faults new ≡ g.faults old
 
 -- ---- what a job answers
 
-module _ {D S : Type 0} (d : disks.Ghosts D) (s : sinks.Ghosts S) (plan : PlainPlan) (old new : D) (sink sink_after : S) (status : ℕ)
-  where
+module _ {D S : Type 0} (d : disks.Ghosts D) (s : sinks.Ghosts S) (plan : PlainPlan) (old new : D) where
+  module _ (sink sink_after : S) (status : ℕ) where
     -- What was decided and said of the store that was on the disk at the start, and that this was printed.
     pub record WasLookedAt : Type 0 where
       pub decided : ℕ
@@ -101,8 +103,8 @@ module _ {D S : Type 0} (d : disks.Ghosts D) (s : sinks.Ghosts S) (plan : PlainP
           → (fault : RecoverFault) × IsWrongFirst (entries (d.reads old)) fault × (status ≡ refusal_status fault)
       pub only_later : status ≡ 10 → plan ≡ job.Compact
 
-    -- What isn't built yet is answered so, what is wrong first is told, and what can be done is done, unless a count rose
-    -- or memory ran out.
+    -- What isn't built yet is answered so, what is wrong first is told, and what can be done is done, unless a count
+    -- rose or memory ran out.
     pub record IsPlainComplete : Type 0 where
       pub later : plan ≡ job.Compact → (status ≡ 10) ⊎ (status ≡ 9)
       pub refused : IsTrue (d.tells old) → plan ≢ job.Compact

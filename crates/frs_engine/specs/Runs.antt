@@ -50,10 +50,11 @@ module _ {D : Type 0} (g : disks.Ghosts D) where
 
 -- ---- the run
 
-module _ {D F S : Type 0} (d : disks.Ghosts D) (f : files.Ghosts F) (s : sinks.Ghosts S) (h : Handed D F) (sink sink_after : S) (status : ℕ)
-  where
-    -- What was run is a legal history of the script, every put in it but at most the last is acknowledged, and a crash at
-    -- any moment leaves the maps after some of its commits, with all acknowledged ones. What was printed is its text.
+module _ {D F S : Type 0} (d : disks.Ghosts D) (f : files.Ghosts F) (s : sinks.Ghosts S) where
+  module _ (h : Handed D F) (sink sink_after : S) (status : ℕ) where
+    -- What was run is a legal history of the script, every put in it but at most the last is acknowledged, and a crash
+    -- at any moment leaves the maps after some of its commits, with all acknowledged ones. What was printed is its
+    -- text.
     pub record WasRun : Type 0 where
       pub ending : Ending
       pub script : List Line

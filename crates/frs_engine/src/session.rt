@@ -75,7 +75,8 @@ impl<'a> Run<'a> {
         value: &Value,
     ) -> Result<Framed, NoMemory>
         ensures record_is { IfOk result (λ framed.
-            framed ≡ spelling (put_drawn (table self.old.entries.items) lsn id.now key.now value.now)) }
+            framed ≡ spelling (put_drawn (table self.old.entries.items) lsn
+            id.now key.now value.now)) }
         ensures words { IsTrue (has_words (action.Put id.now key.now value.now)) }
         ensures entries { OnOk result (table self.new.entries.items
             ≡ put place_cmp (id.now, key.now) (record { value = value.now; lsn = lsn })

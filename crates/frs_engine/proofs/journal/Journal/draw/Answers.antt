@@ -16,7 +16,7 @@ returns-clause-drawn g c records r is framed =
         drawn = record {
           one_ring = (drew.ring ∙ c.in_ok-renew.ensures.one_ring.0, drew.first ∙ c.in_ok-renew.ensures.one_ring.1);
           drawn = drew.drawn ∙ ap (λ (l : List (List ℕ)). l ++ c.in-Err.full.framed ∷ []) before
-              ∙ ap (λ (b : List ℕ). map spelling records ++ b ∷ []) (ap (λ f. f.framed) c.in-Err.ensures.full.1 ∙ framed) ∙ sym (map-append spelling records (r ∷ []));
+              ∙ ap (λ (b : List ℕ). map spelling records ++ b ∷ []) (ap (λ f. f.framed) c.in-Err.ensures.full.2 ∙ framed) ∙ sym (map-append spelling records (r ∷ []));
         };
       },
       omega (arith, c.in-Ok-draw.ensures.drawn.1, ap length before, length-map records spelling, c.in_ok-renew.ensures.one_ring.1, first_is),
