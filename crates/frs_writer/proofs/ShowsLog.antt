@@ -1,5 +1,5 @@
 -- What an image shows of a log, as its newest file grows, one more is made, and the newest files are read.
-use Rattle.std.proofs.Common.{◌≡◌, ◌≢◌, inl, inr, ℕ, ◌+◌, ◌-◌, ◌^◌, ◌<◌, ◌≤◌, true, not, ◌&&◌, List, [], ◌∷◌, ◌++◌, length, take, drop, Option, Some, None, refl, sym, ap, subst, ◌∙◌, arith, IsTrue, append_assoc, length-append, take-append-drop, length-take-le, nat_lt, nat_le, nat_eq, unwrap_or, option_map}
+use Rattle.std.proofs.Common.{◌≡◌, ◌≢◌, inl, inr, ℕ, ◌+◌, ◌-◌, ◌^◌, ◌<◌, ◌≤◌, true, not, ◌&&◌, List, [], ◌∷◌, ◌++◌, length, take, drop, Option, Some, refl, sym, ap, subst, ◌∙◌, arith, IsTrue, append_assoc, length-append, take-append-drop, length-take-le, nat_lt, nat_le, nat_eq, unwrap_or, option_map}
 use Rattle.std.specs.List.{AllZip, last_or, list_all, flat_map}
 use Rattle.std.specs.Ordering.{nat_cmp}
 use Rattle.std.specs.FinMap.Entries.{is_sorted}
@@ -8,7 +8,7 @@ use Rattle.std.proofs.lemmas.List.{append-nil, drop_all}
 use Rattle.std.proofs.lemmas.Grind.{flat_map-append}
 use Rattle.std.proofs.Math.Seq.{drop-append-add}
 use Rattle.frs_types.specs.declared.record.Record.{Record}
-use Rattle.frs_types.specs.Records.{Log, is_allowed, are_allowed_from, kind_allows, has_words, named_lowest, from_lowest}
+use Rattle.frs_types.specs.Records.{Log, is_allowed, are_allowed_from, named_lowest, from_lowest}
 use Rattle.frs_segment.specs.Front.{header, empty_segment, IsHalfMade}
 use Rattle.frs_segment.specs.Order.{IsInOrder}
 use Rattle.frs_segment.specs.Segments.{File, WholeSegment, IsSegment, FileList, records_of, end_of, body, chunk_bytes, chunks_bytes, segment_spelling, is_chunk, are_chunks, open_files, all_records, follow_from, first_alone_reaches, first_of, are_enough, SpellsBy, Spells}

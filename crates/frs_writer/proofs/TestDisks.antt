@@ -1,5 +1,5 @@
 -- The files of a disk that was just made.
-use Rattle.std.proofs.Common.{◌≡◌, ◌∙◌, [], ◌∷◌, ℕ, List, Result, Ok, Err, IfOk, sym, subst, refl}
+use Rattle.std.proofs.Common.{◌≡◌, ◌∙◌, [], ◌∷◌, ℕ, List, sym, subst, refl}
 use Rattle.std.specs.Prelude.{T, IsSome}
 use Rattle.std.specs.Cmp.{nat_cmp_total}
 use Rattle.std.specs.FinMap.{entries, entries_sorted, from_entries, get, get-entries, get-from_entries, nat_cmp-IsAntisymmetric}

@@ -1,4 +1,4 @@
-use Rattle.std.proofs.Common.{◌≡◌, ◌∙◌, ◌<◌, ℕ, IsTrue, sym, subst, arith}
+use Rattle.std.proofs.Common.{◌∙◌, IsTrue, sym, subst, arith}
 use Rattle.std.proofs.lemmas.Result.{on_ok_weaker}
 use Rattle.frs_disk.specs.Disk.{Image}
 use Rattle.frs_disk.proofs.Frames.{goes_on_join, changes_go_on}
