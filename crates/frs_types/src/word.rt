@@ -1,7 +1,7 @@
 //! Words: the id of a map, a key and a value. Contracts see each as the list of its bytes.
 ghost use Rattle.std.specs.Prelude.{◌≡◌, ◌≤◌, Some, None, MatchResult, IfOk, length};
 ghost use Rattle.frs_types.specs.Words.{word_fault};
-ghost use Rattle.frs_types.specs.declared.word.WordFault.{WordFault as Fault};
+ghost use Rattle.frs_types.specs.declared.word.WordFault.{WordFault};
 ghost use Rattle.frs_types.specs.declared.word.WordFault.TheVariants.{Memory};
 
 use crate::limits::{ID_LIMIT, KEY_LIMIT, VALUE_LIMIT};
@@ -99,7 +99,7 @@ impl MapId {
     /// The id of these bytes. `TooLong` where there are more than 64, `Empty` where there are none, and `Memory` where
     /// there was none for it.
     pub fn new(alloc: Global, bytes: &[u8]) -> Result<MapId, WordFault>
-        ensures refused { (fault : Fault) → word_fault 1 ID_LIMIT bytes.now ≡ Some fault
+        ensures refused { (fault : WordFault) → word_fault 1 ID_LIMIT bytes.now ≡ Some fault
             → result ≡ Err fault }
         ensures made { word_fault 1 ID_LIMIT bytes.now ≡ None
             → MatchResult result (λ id. id ≡ bytes.now) (λ fault. fault ≡ WordFault.Memory) }
@@ -130,7 +130,7 @@ impl Key {
     /// The key of these bytes. `TooLong` where there are more than 255, `Empty` where there are none, and `Memory`
     /// where there was none for it.
     pub fn new(alloc: Global, bytes: &[u8]) -> Result<Key, WordFault>
-        ensures refused { (fault : Fault) → word_fault 1 KEY_LIMIT bytes.now ≡ Some fault
+        ensures refused { (fault : WordFault) → word_fault 1 KEY_LIMIT bytes.now ≡ Some fault
             → result ≡ Err fault }
         ensures made { word_fault 1 KEY_LIMIT bytes.now ≡ None
             → MatchResult result (λ key. key ≡ bytes.now) (λ fault. fault ≡ WordFault.Memory) }
@@ -161,7 +161,7 @@ impl Value {
     /// The value of these bytes, which may be none. `TooLong` where there are more than 65,535, and `Memory` where there
     /// was none for it.
     pub fn new(alloc: Global, bytes: &[u8]) -> Result<Value, WordFault>
-        ensures refused { (fault : Fault) → word_fault 0 VALUE_LIMIT bytes.now ≡ Some fault
+        ensures refused { (fault : WordFault) → word_fault 0 VALUE_LIMIT bytes.now ≡ Some fault
             → result ≡ Err fault }
         ensures made { word_fault 0 VALUE_LIMIT bytes.now ≡ None
             → MatchResult result (λ value. value ≡ bytes.now) (λ fault. fault ≡ WordFault.Memory) }
@@ -189,7 +189,7 @@ impl Value {
 
 // The bytes as a vector of their own, where there are enough and not too many.
 fn word_of(alloc: Global, bytes: &[u8], least: usize, most: usize) -> Result<Vec<u8>, WordFault>
-    ensures refused { (fault : Fault) → word_fault least most bytes.now ≡ Some fault
+    ensures refused { (fault : WordFault) → word_fault least most bytes.now ≡ Some fault
         → result ≡ Err fault }
     ensures made { word_fault least most bytes.now ≡ None
         → MatchResult result (λ word. word.items ≡ bytes.now) (λ fault. fault ≡ WordFault.Memory) }
