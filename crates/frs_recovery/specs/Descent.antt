@@ -28,7 +28,8 @@ IsMeant s = (file : File) × IsSegment file s
 abbrev pub TellsSegment : Bool → File → Option Segment → Type 0
 TellsSegment tells file None = IsTrue tells → IsTrue (not (is_open_file file))
 TellsSegment tells file (Some found) =
-    (s : WholeSegment) × IsMeant s × (s.number ≡ file.0) × (found ≡ places_of_segment s) × (IsTrue tells → IsSegment file s)
+    (s : WholeSegment) × IsMeant s × (s.number ≡ file.0) × (found ≡ places_of_segment s)
+    × (IsTrue tells → IsSegment file s)
 
 -- Why it was refused. The disk and memory are free.
 abbrev pub IsFileFault : File → RecoverFault → Type 0
