@@ -87,24 +87,34 @@ unprinted_not_zero status.Limit is = omega (arith, is)
 unprinted_not_zero status.MemoryStop is = omega (arith, is)
 unprinted_not_zero status.Later is = omega (arith, is)
 
+unprinted_memory : (decided : Status) → code_of (status_unprinted decided) ≡ 9 → code_of decided ≡ 9
+unprinted_memory status.Done nine = absurd (omega (arith, nine))
+unprinted_memory other nine = nine
+
 module _ {S V : Type 0} (g : Ghosts S) (text : Text) (decided : Status) (number : ℕ) (old new : S) where
   pub is_reported : (printed : Result V Fault) → number ≡ code_of (status_after decided printed) → HasCause (g.faults old) (g.faults new) printed → (IsTrue (g.tells old) → Prints text (g.written old) (g.written new))
-      → OnOk printed (IsTrue (g.tells old) → PrintsAll text (g.written old) (g.written new)) → IsReported g text (code_of decided) number old new
-  is_reported (Ok v) is cause part all = record {
+      → OnOk printed (IsTrue (g.tells old) → PrintsAll text (g.written old) (g.written new)) → g.tells new ≡ g.tells old → IsReported g text (code_of decided) number old new
+  is_reported (Ok v) is cause part all told = record {
     answers = inl is;
     prints = part;
     prints_all = λ told six nine rose. all told;
     untroubled = λ zero. cause;
+    memory = λ nine other. cause;
+    told = told;
   }
-  is_reported (Err faults.Memory) is cause part all = record {
+  is_reported (Err faults.Memory) is cause part all told = record {
     answers = inr (inr is);
     prints = part;
     prints_all = λ told six nine rose. absurd (nine is);
     untroubled = λ zero. cause;
+    memory = λ nine other. cause;
+    told = told;
   }
-  is_reported (Err faults.Failed) is cause part all = record {
+  is_reported (Err faults.Failed) is cause part all told = record {
     answers = subst (λ (n : ℕ). Answers (code_of decided) n (g.faults old) (g.faults new)) (sym is) (unprinted decided (g.faults old) (g.faults new) cause.1);
     prints = part;
     prints_all = λ told six nine rose. absurd (rose cause.1);
     untroubled = λ zero. absurd (unprinted_not_zero decided (sym is ∙ zero));
+    memory = λ nine other. absurd (other (unprinted_memory decided (sym is ∙ nine)));
+    told = told;
   }

@@ -15,7 +15,7 @@ use Rattle.frs_text.specs.declared.plan.RunPlan.TheVariants.{Scripts, Demo}
 use Rattle.frs_text.specs.declared.script_fault.ScriptFault.{ScriptFault}
 use Rattle.frs_text.specs.declared.script_fault.ScriptFault.TheVariants.{BadLine, TooLong, TooMany}
 use Rattle.frs_engine.specs.declared.ending.Ending.{Ending}
-use Rattle.frs_engine.specs.declared.ending.Ending.TheVariants.{Crowded}
+use Rattle.frs_engine.specs.declared.ending.Ending.TheVariants.{Crowded, Disk, Unread}
 use Rattle.frs_engine.specs.Causes.{Handed, bytes_handed, one_file, ending_of_plan, HasOthers, HasFault, SpellsScript, ListsFiles, IsForLater, IsCause}
 use Rattle.frs_engine.specs.Endings.{ending_by, status_of, text_of}
 use Rattle.frs_engine.specs.Promise.{commits_of_run, Tells, Survives, Completes, ShowsAll}
@@ -48,6 +48,15 @@ module _ {D : Type 0} (g : disks.Ghosts D) where
     pub unread : (status ≡ 2) ⊎ (status ≡ 5) ⊎ (status ≡ 8) → new ≡ old
     pub looked : (status ≡ 10) ⊎ (IsTrue (g.tells old) × ListsFiles g old) → OnlyReads g old new
 
+-- ---- the files
+
+-- The files tell what they told, and hold what they held. Where the plan hasn't one file, neither they nor the disk were
+-- touched.
+pub record LeavesFiles {D F : Type 0} (f : files.Ghosts F) (h : Handed D F) : Type 0 where
+  pub told : f.tells h.files_after ≡ f.tells h.files
+  pub kept : (name : List ℕ) → f.file h.files_after name ≡ f.file h.files name
+  pub untouched : one_file h.plan ≡ None → (h.disk_after ≡ h.disk) × (h.files_after ≡ h.files)
+
 -- ---- the run
 
 module _ {D F S : Type 0} (d : disks.Ghosts D) (f : files.Ghosts F) (s : sinks.Ghosts S) where
@@ -64,6 +73,8 @@ module _ {D F S : Type 0} (d : disks.Ghosts D) (f : files.Ghosts F) (s : sinks.G
       pub cause : IsCause d f h script events ending
       pub several : one_file h.plan ≡ None → ending ≡ ending_of_plan h.plan
       pub reported : IsReported s (text_of ending script events acks) (status_of ending) status sink sink_after
+      pub disk_steady : ending ≢ Disk → d.faults h.disk_after ≡ d.faults h.disk
+      pub files_steady : ending ≢ Unread → f.faults h.files_after ≡ f.faults h.files
 
     -- Each status has its cause.
     pub record HasCauses : Type 0 where

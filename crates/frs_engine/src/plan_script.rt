@@ -74,6 +74,9 @@ pub(crate) fn read_script<F: Files>(
     ensures short { IfOk result (λ script. length script < 2 ^ 32) }
     ensures several { one_file plan.now ≡ None → result ≡ Err (ending_of_plan plan.now) }
     ensures why { IfErr result (IsUnread F.Files plan.now files.old files.new) }
+    ensures told { F.tells files.new ≡ F.tells files.old }
+    ensures kept { (n : List ℕ) → F.file files.new n ≡ F.file files.old n }
+    ensures untouched { one_file plan.now ≡ None → files.new ≡ files.old }
     ensures steady { (result ≡ Err Ending.Unread) ⊎ (F.faults files.new ≡ F.faults files.old) }
 {
     let name = one_file(plan)?;

@@ -4,7 +4,7 @@ ghost use Rattle.frs_disk.specs.Frames.{NoneRemovedAbove, GoesOn};
 ghost use Rattle.frs_engine.specs.Causes.{one_file, ending_of_plan, handed, IsCause, IsEndOfRun};
 ghost use Rattle.frs_engine.specs.Endings.{status_of};
 ghost use Rattle.frs_engine.specs.Promise.{has_puts_and_gets};
-ghost use Rattle.frs_engine.specs.Runs.{HasWork, IsRun, LeavesAlone, WasRun, HasCauses, IsComplete};
+ghost use Rattle.frs_engine.specs.Runs.{LeavesFiles, HasWork, IsRun, LeavesAlone, WasRun, HasCauses, IsComplete};
 
 use crate::ending::Ending;
 use crate::outcome::Outcome;
@@ -69,6 +69,7 @@ fn attempt<D: Disk, F: Files>(alloc: Global, plan: &RunPlan, disk: D, files: &mu
     ensures disk_steady { result.ending ≢ Ending.Disk → D.faults result.disk ≡ D.faults disk }
     ensures files_steady { result.ending ≢ Ending.Unread
         → F.faults files.new ≡ F.faults files.old }
+    ensures files { LeavesFiles F.Files (handed plan.now disk result.disk files.old files.new) }
 {
     match read_script(alloc, plan, files) {
         Ok(script) => run_on(alloc, disk, script),
@@ -120,6 +121,7 @@ pub fn frs_run<
 
     // What it leaves.
     ensures left_alone { LeavesAlone D.Disk disk result.disk result.status }
+    ensures files { LeavesFiles F.Files (handed plan.now disk result.disk files.old files.new) }
     ensures frame { GoesOn D.Disk disk result.disk }
     ensures shelf { result.shelf ≡ shelf }
 {

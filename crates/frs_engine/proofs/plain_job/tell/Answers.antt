@@ -9,4 +9,4 @@ pub returns : goal.returns
 returns g c =
     let printed = c.print-printed in
     is_reported g.S.Sink (finding_text c.args.finding.now) (status_found c.args.finding.now) c.code.result c.args.sink.now printed.new.sink printed.result
-    (c.code.ensures ∙ ap code_of (c.after.ensures ∙ ap (λ (s : Status). status_after s printed.result) c.status.ensures)) printed.ensures.cause (λ told. whole_prints _ _ _ (printed.ensures.part told)) printed.ensures.all
+    (c.code.ensures ∙ ap code_of (c.after.ensures ∙ ap (λ (s : Status). status_after s printed.result) c.status.ensures)) printed.ensures.cause (λ told. whole_prints _ _ _ (printed.ensures.part told)) printed.ensures.all printed.ensures.told

@@ -18,6 +18,8 @@ returns-clause-run g c =
       cause = c.attempt-outcome.ensures.cause;
       several = c.attempt-outcome.ensures.several;
       reported = c.report-status.ensures;
+      disk_steady = c.attempt-outcome.ensures.disk_steady;
+      files_steady = c.attempt-outcome.ensures.files_steady;
     }
 
 pub returns-clause-causes : goal.returns-clause-causes
