@@ -4,7 +4,6 @@ use Rattle.std.specs.Prelude.{OnOk}
 use Rattle.std.specs.Result.{result_err}
 use Rattle.std.proofs.lemmas.List.{append-nil}
 use Rattle.frs_disk.specs.declared.disk.Disk.{Ghosts}
-use Rattle.frs_disk.specs.Disk.{Image}
 use Rattle.frs_disk.specs.Frames.{Within, GoesOn}
 use Rattle.frs_disk.proofs.Moments.{within_join}
 use Rattle.frs_history.specs.declared.event.Ack.{Ack}

@@ -27,6 +27,7 @@ use Rattle.frs_writer.specs.declared.fault.WriteFault.TheVariants as write
 use Rattle.frs_writer.specs.Writing.{HoldsOnly, HoldsLog, HoldsFrom, HasWriteCause, WritesGroup, is_due, segments_after_roll}
 use Rattle.frs_disk.proofs.NoFiles.{no_entries}
 use Rattle.frs_segment.proofs.IsInOrder.{no_files}
+use Rattle.frs_writer.proofs.Places.{newest_number}
 use Rattle.frs_engine.specs.Journal.{HasWritten, HoldsOneMore, log_of, IsOutsideStop, outside_fault, FaultHasCause}
 
 -- ---- lists
@@ -84,11 +85,6 @@ newest_grown count body (s ∷ []) = refl
 newest_grown count body (s ∷ t ∷ []) = refl
 newest_grown count body (s ∷ t ∷ u ∷ segments) = newest_grown count body (t ∷ u ∷ segments)
 
-newest_last : (segments : List Segment) (s : Segment) → number_of_newest (segments ++ s ∷ []) ≡ s.number
-newest_last [] s = refl
-newest_last (t ∷ []) s = refl
-newest_last (t ∷ u ∷ segments) s = newest_last (u ∷ segments) s
-
 newest_rolled : {D : Type 0} (w : WriterView D) → number_of_newest (segments_after_roll w) ≤ number_of_newest w.segments + 1
 newest_rolled w = by (is_due w)
   where
@@ -96,7 +92,7 @@ newest_rolled w = by (is_due w)
     next = places_of_segment (new_segment (number_of_newest w.segments + 1) (w.synced + 1))
 
     by : (b : Bool) → number_of_newest (cond b (w.segments ++ places_of_segment (new_segment (number_of_newest w.segments + 1) (w.synced + 1)) ∷ []) w.segments) ≤ number_of_newest w.segments + 1
-    by true = omega (arith, newest_last w.segments (places_of_segment (new_segment (number_of_newest w.segments + 1) (w.synced + 1))))
+    by true = omega (arith, newest_number w.segments (places_of_segment (new_segment (number_of_newest w.segments + 1) (w.synced + 1))))
     by false = omega arith
 
 newest_wrote : {D : Type 0} (limit count : ℕ) (old new : WriterView D) → WritesGroup limit count old new → number_of_newest new.segments ≤ number_of_newest old.segments + 1

@@ -1,7 +1,6 @@
 -- One more record of a log.
-use Rattle.std.proofs.Common.{◌≡◌, ◌⊎◌, ⊎_elim, ℕ, ◌+◌, ◌<◌, ◌≤◌, true, List, [], ◌∷◌, ◌++◌, length, Some, refl, sym, ◌∙◌, ap, subst, arith, length-append}
-use Rattle.std.specs.Prelude.{nat_lt, nat_le, nat_eq, ◌&&◌, unwrap_or, option_map}
-use Rattle.std.specs.List.{last_or}
+use Rattle.std.proofs.Common.{◌≡◌, ◌⊎◌, ⊎_elim, ℕ, ◌+◌, ◌<◌, ◌≤◌, true, List, [], ◌∷◌, ◌++◌, length, refl, sym, ◌∙◌, ap, subst, arith, length-append}
+use Rattle.std.specs.Prelude.{nat_lt, nat_le, nat_eq, ◌&&◌}
 use Rattle.std.proofs.lemmas.Bool.{and_parts, and_from, eq-eqb, eqb-true, le-leb, lt-ltb}
 use Rattle.std.proofs.lemmas.List.{append-nil}
 use Rattle.std.proofs.lemmas.Grind.{flat_map-append}
@@ -13,6 +12,7 @@ use Rattle.frs_types.specs.Maps.{Table, place_cmp}
 use Rattle.frs_types.specs.Records.{has_words, is_allowed, are_placed_from, named_lowest}
 use Rattle.frs_types.specs.Lawful.{StoredValue, LogState, settled_state, after_record, state_after, are_lawful, is_lawful, lowest, named_at}
 use Rattle.frs_history.specs.Machine.{Changes}
+use Rattle.frs_writer.proofs.IsPlaced.{lowest_or, lowest_last}
 use Rattle.frs_engine.specs.Promise.{puts, puts_by, are_of_run}
 use Rattle.frs_engine.specs.Session.{record_drawn, put_drawn, IsLogOfRun}
 use Rattle.frs_engine.proofs.AreOfRun.{run_goes_on, run_begins}
@@ -31,13 +31,7 @@ puts-push rs r = flat_map-append (λ (x : Record). puts_by x.action) rs (r ∷ [
 
 -- ---- the lowest that records name
 
--- that of the last record, or this one
-last_lowest : ℕ → List Record → ℕ
-last_lowest low [] = low
-last_lowest low (r ∷ rs) = last_lowest r.lowest rs
-
-placed-push : (low n : ℕ) (rs : List Record) (r : Record) → are_placed_from low n rs ≡ true → is_allowed (n + length rs) r ≡ true → last_lowest low rs ≤ r.lowest → are_placed_from low n (rs ++ r ∷ []) ≡ true
-unfolding last_lowest
+placed-push : (low n : ℕ) (rs : List Record) (r : Record) → are_placed_from low n rs ≡ true → is_allowed (n + length rs) r ≡ true → lowest_or low rs ≤ r.lowest → are_placed_from low n (rs ++ r ∷ []) ≡ true
 placed-push low n [] r all may le =
     let here : is_allowed n r ≡ true = subst (λ (k : ℕ). is_allowed k r ≡ true) (omega arith) may in
     and_from _ _ (and_from _ _ here (le-leb low r.lowest le)) refl
@@ -46,25 +40,17 @@ placed-push low n (x ∷ rs) r all may le =
     let here : is_allowed (n + 1 + length rs) r ≡ true = subst (λ (k : ℕ). is_allowed k r ≡ true) (omega arith) may in
     and_from _ _ both.0 (placed-push x.lowest (n + 1) rs r both.1 here le)
 
-last_is : (x : Record) (rs : List Record) → unwrap_or (option_map (λ (r : Record). r.lowest) (last_or (Some x) rs)) 1 ≡ last_lowest x.lowest rs
-unfolding last_lowest
-last_is x [] = refl
-last_is x (y ∷ rs) = last_is y rs
-
-last_named : (rs : List Record) → last_lowest 0 rs ≤ named_lowest rs
-unfolding last_lowest
+last_named : (rs : List Record) → lowest_or 0 rs ≤ named_lowest rs
 last_named [] = omega arith
-last_named (x ∷ rs) = omega (arith, last_is x rs)
+last_named (x ∷ rs) = omega (arith, lowest_last x rs)
 
-last-push : (low : ℕ) (rs : List Record) (r : Record) → last_lowest low (rs ++ r ∷ []) ≡ r.lowest
-unfolding last_lowest
+last-push : (low : ℕ) (rs : List Record) (r : Record) → lowest_or low (rs ++ r ∷ []) ≡ r.lowest
 last-push low [] r = refl
 last-push low (x ∷ rs) r = last-push x.lowest rs r
 
 named-push : (rs : List Record) (r : Record) → named_lowest (rs ++ r ∷ []) ≡ r.lowest
-unfolding last_lowest
 named-push [] r = refl
-named-push (x ∷ rs) r = last_is x (rs ++ r ∷ []) ∙ last-push x.lowest rs r
+named-push (x ∷ rs) r = lowest_last x (rs ++ r ∷ []) ∙ last-push x.lowest rs r
 
 -- ---- which records are lawful
 

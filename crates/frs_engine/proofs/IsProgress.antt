@@ -1,8 +1,8 @@
 -- What many steps leave of a run and its journal.
-use Rattle.std.proofs.Common.{◌≡◌, ◌≤◌, ◌∙◌, ℕ, List, ap, sym, subst, refl, IsTrue}
+use Rattle.std.proofs.Common.{◌≡◌, ◌≤◌, ◌∙◌, ℕ, List, sym, subst, refl, IsTrue}
 use Rattle.frs_disk.specs.declared.disk.Disk.{Ghosts}
 use Rattle.frs_disk.specs.Disk.{Image}
-use Rattle.frs_disk.specs.Frames.{LeftNoFile, GoesOn}
+use Rattle.frs_disk.specs.Frames.{LeftNoFile}
 use Rattle.frs_disk.proofs.Frames.{goes_on_none, goes_on_join}
 use Rattle.frs_history.specs.declared.event.Ack.{Ack}
 use Rattle.frs_engine.specs.declared.journal.Journal.{Journal}

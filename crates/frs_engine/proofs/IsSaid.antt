@@ -1,5 +1,5 @@
 -- What is found of a store is what was read back, or why it couldn't be.
-use Rattle.std.proofs.Common.{◌≡◌, ◌≢◌, ◌∙◌, ◌⊎◌, ⊎_elim, ap, sym, refl, inl, inr, arith, ℕ, ◌≤◌, Bool, true, List, IsTrue, Result, Ok, Err}
+use Rattle.std.proofs.Common.{◌≡◌, ◌≢◌, ◌∙◌, ◌⊎◌, ⊎_elim, ap, sym, refl, inl, inr, arith, ℕ, ◌≤◌, true, List, IsTrue, Result, Ok, Err}
 use Rattle.std.specs.Prelude.{IfOk, IfErr}
 use Rattle.frs_types.specs.Records.{Log}
 use Rattle.frs_segment.specs.Segments.{FileList, WholeSegment}

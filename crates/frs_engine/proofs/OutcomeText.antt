@@ -1,5 +1,5 @@
 -- What a run prints is its transcript with a last line, or that line alone, and what a sink took of it.
-use Rattle.std.proofs.Common.{◌≡◌, ◌∙◌, ◌⊎◌, inl, inr, ap, sym, refl, subst, ℕ, true, false, Bool, cond, List, [], ◌∷◌, ◌++◌, append_assoc, arith, IsTrue}
+use Rattle.std.proofs.Common.{◌≡◌, ◌∙◌, inl, inr, ap, sym, refl, subst, ℕ, true, false, Bool, cond, List, [], ◌∷◌, ◌++◌, append_assoc, arith, IsTrue}
 use Rattle.std.specs.Prelude.{flat_map, Result, Ok, Err, OnOk}
 use Rattle.frs_history.specs.declared.command.Line.{Line}
 use Rattle.frs_history.specs.declared.event.Ack.{Ack}

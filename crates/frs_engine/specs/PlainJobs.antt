@@ -8,7 +8,7 @@ use Rattle.frs_types.specs.Survivors.{survivors, maps_of}
 use Rattle.frs_disk.specs.declared.disk.Disk as disks
 use Rattle.frs_disk.specs.declared.outside.Sink as sinks
 use Rattle.frs_disk.specs.Disk.{Rose}
-use Rattle.frs_segment.specs.Segments.{FileList, WholeSegment, SpellsBy}
+use Rattle.frs_segment.specs.Segments.{WholeSegment, SpellsBy}
 use Rattle.frs_recovery.specs.declared.fault.RecoverFault.{RecoverFault}
 use Rattle.frs_recovery.specs.declared.fault.RecoverFault.TheVariants.{BadHeader, BadChunk, Gap, NumberLimit, Disk, Memory}
 use Rattle.frs_recovery.specs.declared.recovered.Recovered.{Recovered}

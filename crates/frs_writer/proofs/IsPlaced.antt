@@ -35,7 +35,7 @@ abbrev pub lowest_or : ℕ → List Record → ℕ
 lowest_or low [] = low
 lowest_or low (r ∷ rs) = lowest_or r.lowest rs
 
-lowest_last : (r : Record) (rs : List Record) → unwrap_or (option_map (λ (q : Record). q.lowest) (last_or (Some r) rs)) 1 ≡ lowest_or r.lowest rs
+pub lowest_last : (r : Record) (rs : List Record) → unwrap_or (option_map (λ (q : Record). q.lowest) (last_or (Some r) rs)) 1 ≡ lowest_or r.lowest rs
 lowest_last r [] = refl
 lowest_last r (q ∷ rs) = lowest_last q rs
 

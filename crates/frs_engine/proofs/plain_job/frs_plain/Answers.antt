@@ -1,4 +1,4 @@
-use Rattle.std.proofs.Common.{◌≡◌, ◌∙◌, ⊎_elim, inl, inr, sym, subst, arith, ℕ}
+use Rattle.std.proofs.Common.{◌≡◌, ◌∙◌, ⊎_elim, inl, inr, sym, arith}
 use Rattle.frs_engine.specs.PlainJobs.{finding_status, finding_text}
 use Rattle.frs_engine.proofs.IsSaid.{done_or_memory, known_plain, sink_stopped, refusal_answered}
 use Rattle.frs_engine.proofs.IsCause.{decided_is, answered}

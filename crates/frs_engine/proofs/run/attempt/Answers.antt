@@ -1,4 +1,4 @@
-use Rattle.std.proofs.Common.{◌≡◌, inl, inr, sym, ap, subst, ◌∙◌, Ok, IsTrue, List}
+use Rattle.std.proofs.Common.{inl, inr, sym, subst, List}
 use Rattle.frs_disk.proofs.Frames.{only_reads_none, goes_on_none}
 use Rattle.frs_disk.specs.Frames.{OnlyReads, GoesOn}
 use Rattle.frs_history.specs.declared.command.Line.{Line}

@@ -1,4 +1,4 @@
-use Rattle.std.proofs.Common.{◌≡◌, inl, inr, ⊎_elim, ◌∙◌, sym, ap, subst, arith}
+use Rattle.std.proofs.Common.{◌≡◌, inl, inr, ⊎_elim, ◌∙◌, sym, ap, arith}
 use Rattle.frs_engine.specs.declared.ending.Ending.{Ending}
 use Rattle.frs_engine.specs.declared.ending.Ending.TheVariants.{Closed, Disk, Unread}
 use Rattle.frs_engine.specs.Causes.{handed}

@@ -1,10 +1,8 @@
-use Rattle.std.proofs.Common.{◌≡◌, [], ◌∙◌, sym, subst, ⊎_elim, IsTrue, vec_len, arith, ap, refl, List}
-use Rattle.std.specs.FinMap.{keys}
+use Rattle.std.proofs.Common.{◌∙◌, sym, subst, IsTrue, vec_len, arith}
 use Rattle.frs_disk.proofs.Frames.{only_reads_call, reads_go_on, goes_on_join}
-use Rattle.frs_disk.specs.Frames.{OnlyReads, GoesOn}
 use Rattle.frs_engine.specs.declared.ending.Ending.TheVariants.{Disk, Memory, Later}
 use Rattle.frs_engine.proofs.Survives.{empty_by_keys, none_there, none_counted}
-use Rattle.frs_engine.proofs.IsRun.{nothing_run, nothing_changed, run_behind, end_behind, steady_behind, leaves_behind}
+use Rattle.frs_engine.proofs.IsRun.{nothing_run, run_behind, end_behind, steady_behind, leaves_behind}
 use Rattle.frs_engine.proofs.run.run_on.Goals as goal
 
 -- ---- the disk lists no file

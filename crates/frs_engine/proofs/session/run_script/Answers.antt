@@ -1,5 +1,4 @@
-use Rattle.std.proofs.Common.{◌≡◌, ◌∙◌, None, Some, List, [], ap, sym, subst, arith, refl, IsTrue}
-use Rattle.std.specs.Result.{result_err}
+use Rattle.std.proofs.Common.{◌≡◌, ◌∙◌, Some, List, [], ap, sym, subst, IsTrue}
 use Rattle.frs_disk.specs.Frames.{Within, LeftNoFile}
 use Rattle.frs_disk.proofs.Moments.{within_join}
 use Rattle.frs_history.specs.declared.command.Line.{Line}
