@@ -8,6 +8,7 @@ use Rattle.std.specs.FinMap.Entries.{is_sorted}
 use Rattle.std.proofs.Math.Dec.{ltb}
 use Rattle.std.proofs.lemmas.List.{reverse-reverse}
 use Rattle.std.proofs.lemmas.List.Elements.{All-head, All-tail, All-weaker}
+use Rattle.frs_types.proofs.LowestRises.{least_at_most}
 use Rattle.frs_types.specs.declared.record.Entry.{Entry}
 use Rattle.frs_types.specs.declared.record.Record.{Record}
 use Rattle.frs_types.specs.Maps.{same_place}
@@ -37,10 +38,6 @@ pub record IsReadOff (l : Descent) (numbers : List ℕ) (r : Recovered) : Type 0
   pub entries : (first : ℕ) (rs : List Record) → HasRead l.records first rs → r.entries ≡ survivors_of (committed_records (offered_records first rs))
   pub lowest : (first : ℕ) (rs : List Record) → HasRead l.records first rs
       → r.lowest ≡ least r.found.next (lsns_of (survivors_of (committed_records (offered_records first rs))) ++ open_begins (offered_records first rs))
-
-least_at_most : (n : ℕ) (ns : List ℕ) → least n ns ≤ n
-least_at_most n [] = omega arith
-least_at_most n (m ∷ ns) = let le = least_at_most (min n m) ns in omega (arith, le)
 
 last_within : (n : ℕ) (ns : List ℕ) → n < 2 ^ 62 → All IsNumber ns → unwrap_or (last_or (Some n) ns) 0 < 2 ^ 62
 last_within n [] lt all = lt

@@ -1,4 +1,12 @@
+pub mod ActiveChanges
 pub mod Allowed
+pub mod BackwardExamples
+pub mod BackwardIsForward
+pub mod Changes
+pub mod EntriesLeft
 pub mod LogExamples
+pub mod LowestRises
+pub mod OneMoreRecord
 pub mod Results
+pub mod StateIsRead
 pub mod Truth
