@@ -1,15 +1,13 @@
 -- Logs read back, computed: what survives in each of their prefixes is what the state has that the prefix reaches, and so
 -- is what survives of the records from the lowest that the prefix names last.
-use Rattle.std.proofs.Common.{◌≡◌, ℕ, ◌+◌, zero, suc, List, [], ◌∷◌, ◌++◌, true, refl, map, take, drop, length}
+use Rattle.std.proofs.Common.{◌≡◌, ℕ, ◌+◌, zero, suc, List, [], ◌∷◌, ◌++◌, true, refl, map, take}
 use Rattle.std.specs.Prelude.{codes, decimal}
 use Rattle.std.specs.Fmt.{digits}
-use Rattle.frs_types.specs.declared.record.Action.{Action}
 use Rattle.frs_types.specs.declared.record.Action.TheVariants.{Put, Remove, Delete, Begin, Commit, Compaction, Mark, Abandon}
 use Rattle.frs_types.specs.declared.record.Record.{Record}
-use Rattle.frs_types.specs.Maps.{Table}
 use Rattle.frs_types.specs.Records.{Log, from_lowest}
 use Rattle.frs_types.specs.Survivors.{survivors, lowest_of}
-use Rattle.frs_types.specs.Lawful.{StoredValue, LogState, are_lawful, settled_state, state_after, table_of, lowest}
+use Rattle.frs_types.specs.Lawful.{LogState, are_lawful, settled_state, state_after, table_of, lowest}
 use Rattle.frs_types.proofs.LogExamples.{rec}
 
 abbrev from_start : List Record → Log

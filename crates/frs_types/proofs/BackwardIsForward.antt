@@ -115,7 +115,7 @@ sorted_after_all : (cs : List (Change StoredValue)) (t : Table StoredValue) → 
 sorted_after_all [] t sorted = sorted
 sorted_after_all (x ∷ cs) t sorted = sorted_after_all cs (table_after t x) (sorted_after t x sorted)
 
-sorted_by : (s : LogState) (tx : ℕ) (a : Action) → T (is_sorted place_cmp s.entries) → T (is_sorted place_cmp (after_by s tx a).entries)
+pub sorted_by : (s : LogState) (tx : ℕ) (a : Action) → T (is_sorted place_cmp s.entries) → T (is_sorted place_cmp (after_by s tx a).entries)
 sorted_by s tx a sorted = by_kind a
   where
     at_change : (x : Change StoredValue) → T (is_sorted place_cmp (after_change s tx x).entries)
@@ -156,7 +156,7 @@ module _ (rs : List Record) (lawful : Lawful [] 1 rs) where
   is_read : IsRead (reached rs) (numbered_records_from 1 rs)
   is_read = lawful_is_read 1 rs (omega arith) lawful
 
-  left_holds : Holds (at (reached rs).entries) (entries_left (committed_records (numbered_records_from 1 rs))) (reached rs).next
+  pub left_holds : Holds (at (reached rs).entries) (entries_left (committed_records (numbered_records_from 1 rs))) (reached rs).next
   left_holds = subst (λ qs. Holds (at (reached rs).entries) (entries_left qs) (reached rs).next) (records_with_none (numbered_records_from 1 rs)) (is_read.reads [] tt)
 
   survivors_left : survivors (whole rs) ≡ entries_left (committed_records (numbered_records_from 1 rs))

@@ -5,6 +5,7 @@ pub mod BackwardIsForward
 pub mod Changes
 pub mod EntriesLeft
 pub mod LogExamples
+pub mod LogStates
 pub mod LowestRises
 pub mod OneMoreRecord
 pub mod Results

@@ -1,3 +1,4 @@
+pub mod ChangeLists
 pub mod Lawful
 pub mod Locks
 pub mod Maps
