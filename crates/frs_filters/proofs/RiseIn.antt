@@ -1,12 +1,10 @@
 -- Of consecutive records the survivors rise by their LSNs, which are among those of the records, and no two of them have
 -- one place; and the open begins rise likewise.
-use Rattle.std.proofs.Common.{◌≡◌, refl, ap, sym, ℕ, zero, suc, ◌+◌, ◌≤◌, ◌<◌, Bool, true, false, ◌||◌, List, [], ◌∷◌, length, map, Option, Some, None, subst, arith}
-use Rattle.std.specs.Prelude.{◌==◌, slice_index, All, if◌then◌else◌, option_map, unwrap_or}
+use Rattle.std.proofs.Common.{◌≡◌, refl, sym, ℕ, zero, suc, ◌+◌, ◌≤◌, ◌<◌, Bool, true, false, ◌||◌, List, [], ◌∷◌, length, map, Option, Some, None, subst, arith}
+use Rattle.std.specs.Prelude.{◌==◌, slice_index, All, if◌then◌else◌}
 use Rattle.std.specs.List.{AllByRecursion, IsDistinct, list_any}
 use Rattle.std.specs.List.Sorted.{IsStrictlyIncreasing}
 use Rattle.std.proofs.lemmas.Map.Keys.{IsDistinct-cons}
-use Rattle.frs_types.specs.declared.record.Action.{Action}
-use Rattle.frs_types.specs.declared.record.Action.TheVariants.{Put, Remove, Delete, Begin, Commit, Compaction, Mark, Abandon}
 use Rattle.frs_types.specs.declared.record.Record.{Record}
 use Rattle.frs_types.specs.declared.record.Entry.{Entry}
 use Rattle.frs_types.specs.Maps.{Place, same_place}
@@ -63,24 +61,24 @@ abbrev pub entry_lsns : List Entry → List ℕ
 entry_lsns es = map (λ (e : Entry). e.lsn) es
 
 -- an entry has the LSN of its record
-older_rise : (b : Bool) (e : Entry) (newer : List Entry) (low high : ℕ) → low ≤ e.lsn → e.lsn < high → RiseIn (e.lsn + 1) high (from_entrys newer)
-    → RiseIn low high (from_entrys (if b then newer else e ∷ newer))
+older_rise : (b : Bool) (e : Entry) (newer : List Entry) (low high : ℕ) → low ≤ e.lsn → e.lsn < high → RiseIn (e.lsn + 1) high (entry_lsns newer)
+    → RiseIn low high (entry_lsns (if b then newer else e ∷ newer))
 older_rise false e newer low high least most r = (least, most, r)
-older_rise true e newer low high least most r = rise_from (e.lsn + 1) low high (from_entrys newer) (omega (arith, least)) r
+older_rise true e newer low high least most r = rise_from (e.lsn + 1) low high (entry_lsns newer) (omega (arith, least)) r
 
 with_entry_rise : (made : Option Entry) (later : List Numbered) (newer : List Entry) (n low high : ℕ) → ((e : Entry) → made ≡ Some e → e.lsn ≡ n) → low ≤ n → n < high
-    → RiseIn (n + 1) high (from_entrys newer) → RiseIn low high (from_entrys (with_entry made later newer))
-with_entry_rise None later newer n low high its least most r = rise_from (n + 1) low high (from_entrys newer) (omega (arith, least)) r
+    → RiseIn (n + 1) high (entry_lsns newer) → RiseIn low high (entry_lsns (with_entry made later newer))
+with_entry_rise None later newer n low high its least most r = rise_from (n + 1) low high (entry_lsns newer) (omega (arith, least)) r
 with_entry_rise (Some e) later newer n low high its least most r =
     let same = sym (its e refl) in
-    older_rise _ e newer low high (subst (λ k. low ≤ k) same least) (subst (λ k. k < high) same most) (subst (λ k. RiseIn (k + 1) high (from_entrys newer)) same r)
+    older_rise _ e newer low high (subst (λ k. low ≤ k) same least) (subst (λ k. k < high) same most) (subst (λ k. RiseIn (k + 1) high (entry_lsns newer)) same r)
 
-survivors_rise : (low high : ℕ) (qs : List Numbered) → RiseIn low high (lsns_of qs) → RiseIn low high (from_entrys (survivors_of qs))
+survivors_rise : (low high : ℕ) (qs : List Numbered) → RiseIn low high (lsns_of qs) → RiseIn low high (entry_lsns (survivors_of qs))
 survivors_rise low high [] r = tt
 survivors_rise low high (q ∷ later) r =
     with_entry_rise (entry_by q.lsn q.what.action) later (survivors_of later) q.lsn low high (from_entry q.lsn q.what.action) r.0 r.1 (survivors_rise (q.lsn + 1) high later r.2)
 
-pub all_rise : (first : ℕ) (rs : List Record) → RiseIn first (first + length rs) (from_entrys (survivors_of (committed_records (numbered_records_from first rs))))
+pub all_rise : (first : ℕ) (rs : List Record) → RiseIn first (first + length rs) (entry_lsns (survivors_of (committed_records (numbered_records_from first rs))))
 all_rise first rs = survivors_rise first (first + length rs) _ (committed_rise first (first + length rs) _ (numbered_rise first rs))
 
 -- ---- open begins

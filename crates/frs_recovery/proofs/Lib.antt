@@ -1,3 +1,4 @@
+mod BackwardIsState
 mod BackwardReader
 mod GoDown
 mod GoesDown
@@ -9,6 +10,7 @@ mod LookAt
 mod OneOfTwo
 mod Reaches
 mod ReadSegment
+mod ReadyDisks
 mod RecoverAnswers
 mod RecoveredStore
 mod RisingFiles

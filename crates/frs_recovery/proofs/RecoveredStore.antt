@@ -1,5 +1,5 @@
 -- What is read off the segments that were looked at is what the store has.
-use Rattle.std.proofs.Common.{◌≡◌, ℕ, ◌+◌, ◌^◌, ◌<◌, ◌≤◌, Bool, List, [], ◌∷◌, ◌++◌, Option, None, Some, length, map, min, reverse, sym, ap, subst, ◌∙◌, arith, IsTrue, All}
+use Rattle.std.proofs.Common.{◌≡◌, ℕ, ◌+◌, ◌^◌, ◌<◌, ◌≤◌, Bool, List, [], ◌∷◌, ◌++◌, Option, None, Some, length, map, reverse, sym, ap, subst, ◌∙◌, arith, IsTrue, All}
 use Rattle.std.specs.Prelude.{filter, unwrap_or}
 use Rattle.std.specs.List.{last_or, IsDistinct}
 use Rattle.std.specs.List.Sorted.{IsStrictlyIncreasing}

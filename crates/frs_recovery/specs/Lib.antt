@@ -4,3 +4,4 @@ pub mod DescentEnd
 pub mod Faults
 pub mod FirstFault
 pub mod OfferedRecords
+pub mod Sound

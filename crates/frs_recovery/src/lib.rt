@@ -5,11 +5,13 @@
 mod backward_reader;
 mod descent;
 mod fault;
+mod ready;
 mod recovered;
 mod recovery;
 mod unique_answer;
 
 pub use fault::RecoverFault;
+pub use ready::ready_disks;
 pub use recovered::Recovered;
 pub use recovery::recover;
 pub use unique_answer::one_answer;

@@ -1,19 +1,22 @@
 //! Reading a store back.
-ghost use Rattle.std.specs.Prelude.{◌≡◌, ◌<◌, ℕ, Bool, List, None, filter, nat_lt, reverse, unwrap_or, IsTrue, IfOk, IfErr, All};
+ghost use Rattle.std.specs.Prelude.{◌≡◌, ◌<◌, ℕ, Bool, List, [], None, filter, nat_lt, reverse, unwrap_or, IsTrue, IfOk, IfErr, All};
 ghost use Rattle.std.specs.FinMap.{entries, keys};
 ghost use Rattle.std.specs.FinMap.Entries.{is_sorted};
 ghost use Rattle.std.specs.Ordering.{nat_cmp};
 ghost use Rattle.std.specs.List.{last_or};
-ghost use Rattle.frs_types.specs.Records.{Log};
+ghost use Rattle.frs_types.specs.declared.record.Record.{Record};
+ghost use Rattle.frs_types.specs.Records.{Log, from_lowest};
+ghost use Rattle.frs_types.specs.Lawful.{Lawful, settled_state, state_after};
 ghost use Rattle.frs_disk.specs.Disk.{bytes_at, IsNumber};
 ghost use Rattle.frs_disk.specs.Frames.{IsThere, OnlyReads};
-ghost use Rattle.frs_segment.specs.Segments.{FileList, WholeSegment, SpellsBy};
+ghost use Rattle.frs_segment.specs.Segments.{FileList, WholeSegment, SpellsBy, Spells};
 ghost use Rattle.frs_segment.specs.Stores.{numbers_of};
 ghost use Rattle.frs_recovery.specs.declared.fault.RecoverFault.{RecoverFault};
 ghost use Rattle.frs_recovery.specs.Answers.{IsRecovered, IsInRange};
 ghost use Rattle.frs_recovery.specs.Faults.{HasRecoverCause, IsCauseOnDisk, GivesRecovered, Refuses};
 ghost use Rattle.frs_recovery.specs.DescentEnd.{LooksDown, end_of_newest, least_number};
 ghost use Rattle.frs_recovery.specs.FirstFault.{IsWrongFirst};
+ghost use Rattle.frs_recovery.specs.Sound.{HasState};
 
 use crate::descent::{Descent, look_at};
 use crate::fault::RecoverFault;
@@ -53,6 +56,11 @@ pub fn recover<D: Disk>(alloc: Global, disk: &mut D) -> Result<Recovered, Recove
         → IfErr result (IsCauseOnDisk (entries (D.reads disk.old))) }
     ensures refused { IsTrue (D.tells disk.old) → (fault : RecoverFault)
         → IsWrongFirst (entries (D.reads disk.old)) fault → Refuses fault result }
+
+    // Of a lawful log whose records from the named lowest on the files spell, it gives the state.
+    ensures state { IsTrue (D.tells disk.old) → (records : List Record) → Lawful [] 1 records
+        → Spells (entries (D.reads disk.old)) (from_lowest 1 records)
+        → IfOk result (HasState (state_after (settled_state [] 1) records)) }
 
     // What holds also where the disk doesn't tell its files.
     ensures in_range { IfOk result IsInRange }

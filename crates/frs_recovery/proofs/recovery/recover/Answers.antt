@@ -1,7 +1,8 @@
-use Rattle.std.proofs.Common.{◌≡◌, ℕ, List, refl, sym, ap, subst, ◌∙◌, IsTrue, All, Vec, Global, Err, arith}
+use Rattle.std.proofs.Common.{◌≡◌, ℕ, List, [], refl, sym, ap, subst, ◌∙◌, IsTrue, All, Vec, Global, Err, arith}
 use Rattle.std.specs.FinMap.{entries, keys}
 use Rattle.std.proofs.lemmas.Grind.{common_steps}
 use Rattle.frs_types.specs.Records.{Log}
+use Rattle.frs_types.specs.Lawful.{settled_state, state_after}
 use Rattle.frs_disk.specs.Disk.{Image, IsNumber}
 use Rattle.frs_disk.proofs.Frames.{only_reads_call, only_reads_join}
 use Rattle.frs_segment.specs.Segments.{WholeSegment}
@@ -9,6 +10,8 @@ use Rattle.frs_disk.specs.declared.disk.Fault.{Fault}
 use Rattle.frs_recovery.specs.declared.fault.RecoverFault.{RecoverFault}
 use Rattle.frs_recovery.specs.declared.recovered.Recovered.{Recovered}
 use Rattle.frs_recovery.specs.Answers.{IsRecovered, IsInRange}
+use Rattle.frs_recovery.specs.Sound.{HasState}
+use Rattle.frs_recovery.proofs.BackwardIsState.{recovered_is_state}
 use Rattle.frs_recovery.specs.Faults.{recover_fault_of, IsCauseOnDisk}
 use Rattle.frs_segment.proofs.SpellsBy.{rising}
 use Rattle.frs_recovery.proofs.SegmentOf.{err_is}
@@ -39,6 +42,7 @@ returns-in_err-numbers g c =
       only = λ told segments log by. outside_gives (IsRecovered (entries m) segments log) c.from_residual.result fault is;
       why = λ told. err_is (IsCauseOnDisk (entries m)) c.from_residual.result (recover_fault_of fault) is (outside_cause (entries m) fault);
       refused = λ told other wrong. outside_refuses other c.from_residual.result fault is;
+      state = λ told records lawful by. none_down (HasState (state_after (settled_state [] 1) records)) c.from_residual.result (recover_fault_of fault) is;
       in_range = none_down IsInRange c.from_residual.result (recover_fault_of fault) is;
       frame = listed;
       cause = still_cause (d.faults c.args.disk.now) (d.faults c.args.disk.now) (d.faults c.segments.new.self) c.from_residual.result (recover_fault_of fault) is refl (outside_counts (Vec ℕ Global) (d.faults c.args.disk.now) (d.faults c.segments.new.self) fault c.in_err-numbers.ensures.cause);
@@ -59,6 +63,7 @@ returns-in_err-descent g c =
       only = λ told segments log by. only_outside c.one_answer.ensures.apart (IsRecovered (entries m) segments log) (entries m) result fault is (cause told) segments log by;
       why = λ told. err_is (IsCauseOnDisk (entries m)) result fault is (cause told);
       refused = λ told other wrong. told_wrong c.one_answer.ensures.one (entries m) result other fault is (cause told) wrong;
+      state = λ told records lawful by. none_down (HasState (state_after (settled_state [] 1) records)) result fault is;
       in_range = none_down IsInRange result fault is;
       frame = only_reads_join d g.met.D.Disk.since_earlier c.args.disk.now c.segments.new.self c.go_down.new.disk listed c.go_down.ensures.frame;
       cause = still_cause (d.faults c.args.disk.now) (d.faults c.segments.new.self) (d.faults c.go_down.new.disk) result fault is c.in_ok-numbers.ensures.cause c.in_err-descent.ensures.cause;
@@ -79,6 +84,7 @@ returns g c =
       only = λ told. only_one c.one_log.ensures.segments c.one_log.ensures.log (entries m) c.recovered_store.result (found told);
       why = λ told. tt;
       refused = λ told fault. never_wrong c.one_answer.ensures.apart (entries m) c.recovered_store.result fault (found told);
+      state = λ told. recovered_is_state (entries m) c.recovered_store.result (only_one c.one_log.ensures.segments c.one_log.ensures.log (entries m) c.recovered_store.result (found told));
       in_range = c.recovered_store.ensures.in_range (d.tells c.segments.new.self) (entries later) c.in_ok-descent.ensures.down;
       frame = only_reads_join d g.met.D.Disk.since_earlier c.args.disk.now c.segments.new.self c.go_down.new.disk listed c.go_down.ensures.frame;
       cause = c.in_ok-descent.ensures.cause ∙ c.in_ok-numbers.ensures.cause;
