@@ -12,8 +12,8 @@ use Rattle.frs_recovery.specs.declared.recovered.Recovered.{Recovered}
 
 -- ---- images
 
--- There is a lawful log from LSN 1 on, on no entries, and the image spells its records from the lowest that the newest of
--- them names. Of the empty log it spells the empty log.
+-- There is a lawful log from LSN 1 on, on no entries, and the image spells its records from the lowest that the newest
+-- of them names. Of the empty log it spells the empty log.
 abbrev pub IsSound : FileList → Type 0
 IsSound image = (records : List Record) × Lawful [] 1 records × Spells image (from_lowest 1 records)
 
@@ -28,8 +28,8 @@ pub record HasState (s : LogState) (r : Recovered) : Type 0 where
 abbrev pub RemovesBelow : {D : Type 0} → Ghosts D → D → Type 0
 RemovesBelow g disk = (n : ℕ) → g.removing disk n → (m : ℕ) × IsSome (get (g.reads disk) m) × (n < m)
 
--- What the disk reads is sound, each crash now leaves an image that spells the same alike, and no removal is pending at or
--- above the files that are there.
+-- What the disk reads is sound, each crash now leaves an image that spells the same alike, and no removal is pending at
+-- or above the greatest of the files that are there.
 pub record IsReady {D : Type 0} (g : Ghosts D) (disk : D) : Type 0 where
   pub sound : IsSound (entries (g.reads disk))
   pub alike : (c : Image) → g.may_leave disk c → SpellsAlike (entries (g.reads disk)) (entries c)

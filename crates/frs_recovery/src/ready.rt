@@ -14,7 +14,8 @@ use frs_disk::Disk;
 pub fn ready_disks<D: Disk>()
     ensures restarted { (disk : D) → IsRestarted D.Disk disk → IsSound (entries (D.reads disk))
         → IsReady D.Disk disk }
-    ensures no_file { (disk : D) → IsRestarted D.Disk disk → D.reads disk ≡ empty → IsReady D.Disk disk }
+    ensures no_file { (disk : D) → IsRestarted D.Disk disk → D.reads disk ≡ empty
+        → IsReady D.Disk disk }
     ensures looked_at { (old new : D) → IsReady D.Disk old → OnlyReads D.Disk old new
         → IsReady D.Disk new }
     ensures sound { (disk : D) → IsReady D.Disk disk → (c : Image) → D.may_leave disk c
