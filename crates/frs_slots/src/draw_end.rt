@@ -19,13 +19,15 @@ pub trait DrawEnd {
     ghost is_else_as: { Self → Self → Type 0 };
 
     /// Brings the two ends of one ring together. What was taken is then known to be the first part of what was drawn,
-    /// and all of it that is sure is known to be there. `known` may rise, and nothing else changes. Takes no memory.
+    /// all of it that is sure is known to be there, and the drawer knows no more as taken than was taken. `known` may
+    /// rise, and nothing else changes. Takes no memory.
     fn beside(&mut self, taker: &mut Taker)
         requires { AreOfOneRing (drawer self.old) taker.old }
         ensures one_ring { AreOfOneRing (drawer self.new) taker.new }
         ensures prefix { IsPrefix taker.new.taken (drawer self.new).drawn }
         ensures known { (min taker.new.sure (length (drawer self.new).drawn) ≤ taker.new.known)
             × (taker.new.known ≤ length (drawer self.new).drawn) }
+        ensures taken { (drawer self.new).known_taken ≤ length taker.new.taken }
         ensures taker { (taker.new ≡ record taker.old { known = taker.new.known })
             × (taker.old.known ≤ taker.new.known) }
         ensures drawer { drawer self.new ≡ drawer self.old }
@@ -59,6 +61,7 @@ impl DrawEnd for Drawer {
     ghost is_else_as = { λ _ _. Unit {0} };
 
     fn beside(&mut self, taker: &mut Taker) {
+        self.producer.slots_beside(&mut taker.consumer);
         taker.consumer.slots_beside(&mut self.producer);
         taker.known = self.next - self.first;
     }
