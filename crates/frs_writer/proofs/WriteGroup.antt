@@ -1,7 +1,7 @@
 -- How a roll and a write behind it join into a call of `write_group`.
-use Rattle.std.proofs.Common.{◌≡◌, inl, inr, ⊎_elim, ℕ, ◌+◌, ◌-◌, ◌≤◌, List, ◌++◌, length, None, refl, sym, ◌∙◌, ap, subst, arith, append_assoc, length-append, IsTrue}
+use Rattle.std.proofs.Common.{◌≡◌, ◌⊎◌, inl, inr, ⊎_elim, ℕ, ◌+◌, ◌-◌, ◌≤◌, Bool, true, false, List, [], ◌++◌, length, None, refl, sym, ◌∙◌, ap, subst, arith, append_assoc, length-append, IsTrue}
 use Rattle.std.specs.Prelude.{Result, Ok, Err, nat_lt, if◌then◌else◌}
-use Rattle.std.proofs.lemmas.List.{take-append-le}
+use Rattle.std.proofs.lemmas.List.{take-append-le, append-nil}
 use Rattle.std.specs.FinMap.{entries}
 use Rattle.frs_types.specs.declared.record.Record.{Record}
 use Rattle.frs_types.specs.Records.{Log, IsPlaced, from_lowest}
@@ -19,10 +19,10 @@ use Rattle.frs_writer.specs.Invariant.{ShowsFrom}
 use Rattle.frs_writer.specs.LogImages.{ShowsLog}
 use Rattle.frs_writer.specs.Places.{with_newest_grown}
 use Rattle.frs_writer.specs.Writer.{WriterView, IsLog, WasEmpty, IsWellOpened}
-use Rattle.frs_writer.specs.Writing.{WritesGroup, IsRolled, TakesMore, SpellsFrom, HoldsFrom, LeavesLog, LeavesShown, IsDurable, HasWriteCause, HasPutCause}
+use Rattle.frs_writer.specs.Writing.{is_due, WritesGroup, StopsWrite, IsLeftRefused, HasMadeNext, IsRolled, TakesMore, SpellsFrom, HoldsFrom, LeavesLog, LeavesShown, IsDurable, HasWriteCause, HasPutCause}
 use Rattle.frs_writer.proofs.Parted.{part, with_more, placed_less}
 use Rattle.frs_writer.proofs.HoldsLog.{from_whole}
-use Rattle.frs_writer.proofs.WritesGroup.{not_due}
+use Rattle.frs_writer.proofs.WritesGroup.{not_due, not_broken}
 
 -- ---- a log with more records
 
@@ -60,6 +60,32 @@ log_before g w w' takes log' l =
       log_is = l.is ∙ ap (λ (x : List Record). record l.base { records = base ++ x }) p.is ∙ ap (λ (x : List Record). record l.base { records = x }) (sym (append_assoc base p.front p.back));
     }
 
+-- ---- where nothing was written
+
+pub takes_none : {D : Type 0} (old new : WriterView D) → new.opened ≡ old.opened → new.noted ≡ old.noted → new.taker ≡ old.taker → TakesMore old new
+takes_none old new opened noted same = record {
+  opened = opened;
+  noted = noted;
+  ring = (ap (λ (t : TakerView). t.ring) same, ap (λ (t : TakerView). t.first) same);
+  known = omega (arith, ap (λ (t : TakerView). t.known) same);
+  sure = omega (arith, ap (λ (t : TakerView). t.sure) same);
+  more = [];
+  taken = ap (λ (t : TakerView). t.taken) same ∙ sym (append-nil old.taker.taken);
+}
+
+pub stopped_refused : {D : Type 0} (g : Ghosts D) (limit : ℕ) (w : WriterView D) → (w.ended ≡ None → ⊥) → IsLeftRefused g limit w w
+stopped_refused g limit w stopped = record { synced = refl; segments = inl refl; cut = λ here fine. absurd (stopped fine) }
+
+pub roll_refused : {D : Type 0} (g : Ghosts D) (limit : ℕ) (old new : WriterView D) → new ≡ record old { disk = new.disk; ended = new.ended } → is_due old ≡ true → IsLeftRefused g limit old new
+roll_refused {D = D} g limit old new is due = record {
+  synced = ap (λ (w : WriterView D). w.synced) is;
+  segments = inl (ap (λ (w : WriterView D). w.segments) is);
+  cut = λ here fine. absurd (both (sym due ∙ here));
+}
+  where
+    both : true ≡ false → ⊥
+    both is = cc
+
 -- ---- a roll, and a write behind it
 
 module _ {D : Type 0} (g : Ghosts D) (old mid new : WriterView D) (rolled : IsRolled old mid) (takes : TakesMore mid new) where
@@ -72,17 +98,36 @@ module _ {D : Type 0} (g : Ghosts D) (old mid new : WriterView D) (rolled : IsRo
   synced_mid : mid.synced ≡ old.synced
   synced_mid = ap (λ (w : WriterView D). w.synced) rolled.view
 
-  pub joined_same : (new.opened ≡ old.opened) × (new.noted ≡ old.noted)
-  joined_same = (takes.opened ∙ opened_mid, takes.noted ∙ ap (λ (w : WriterView D). w.noted) rolled.view)
+  pub joined_takes : TakesMore old new
+  joined_takes = record {
+    opened = takes.opened ∙ opened_mid;
+    noted = takes.noted ∙ ap (λ (w : WriterView D). w.noted) rolled.view;
+    ring = (takes.ring.0 ∙ ap (λ (t : TakerView). t.ring) taker_mid, takes.ring.1 ∙ ap (λ (t : TakerView). t.first) taker_mid);
+    known = subst (λ (t : TakerView). t.known ≤ new.taker.known) taker_mid takes.known;
+    sure = subst (λ (t : TakerView). t.sure ≤ new.taker.sure) taker_mid takes.sure;
+    more = takes.more;
+    taken = takes.taken ∙ ap (λ (t : TakerView). t.taken ++ takes.more) taker_mid;
+  }
 
-  pub joined_taker : (new.taker.ring ≡ old.taker.ring) × (new.taker.first ≡ old.taker.first)
-  joined_taker = (takes.ring.0 ∙ ap (λ (t : TakerView). t.ring) taker_mid, takes.ring.1 ∙ ap (λ (t : TakerView). t.first) taker_mid)
+  gathers_mid : (limit : ℕ) (group : List (List ℕ)) → GathersGroup limit mid.taker new.taker mid.kept new.kept group → GathersGroup limit old.taker new.taker old.kept new.kept group
+  gathers_mid limit group gathers = subst (λ (o : _). GathersGroup limit old.taker new.taker o new.kept group) (ap (λ (w : WriterView D). w.kept) rolled.view)
+      (subst (λ (t : TakerView). GathersGroup limit t new.taker mid.kept new.kept group) taker_mid gathers)
+
+  pub joined_refused : (limit : ℕ) → StopsWrite g limit mid new → IsLeftRefused g limit old new
+  joined_refused limit stops = record {
+    synced = stops.synced ∙ synced_mid;
+    segments = by (is_due old) refl;
+    cut = λ here fine. ⊎_elim inl (λ some. inr (some.0, some.1, gathers_mid limit some.0 some.2)) stops.gathered;
+  }
+    where
+      by : (b : Bool) → is_due old ≡ b → (new.segments ≡ old.segments) ⊎ HasMadeNext g old new
+      by true due = inr (due, stops.segments ∙ ap (λ (w : WriterView D). w.segments) rolled.view, stops.there)
+      by false here = inl (stops.segments ∙ ap (λ (w : WriterView D). w.segments) rolled.view ∙ not_due old here)
 
   pub joined_wrote : (limit count : ℕ) → WritesGroup limit count mid new → WritesGroup limit count old new
   joined_wrote limit count wrote = record {
     group = wrote.group;
-    gathers = subst (λ (o : _). GathersGroup limit old.taker new.taker o new.kept wrote.group) (ap (λ (w : WriterView D). w.kept) rolled.view)
-        (subst (λ (t : TakerView). GathersGroup limit t new.taker mid.kept new.kept wrote.group) taker_mid wrote.gathers);
+    gathers = gathers_mid limit wrote.group wrote.gathers;
     counted = wrote.counted;
     none = λ zero. let (was, now) = wrote.none zero in (sym (ap (λ (w : WriterView D). w.kept) rolled.view) ∙ was, now);
     synced = wrote.synced ∙ ap (λ (n : ℕ). n + count) synced_mid;
@@ -120,4 +165,4 @@ module _ {D : Type 0} (g : Ghosts D) (old mid new : WriterView D) (rolled : IsRo
   joined_cause not_given (Err Disk) fine same kept cause = (subst (λ (n : ℕ). Rose n (g.faults new.disk)) same cause.0, fine, cause.1)
   joined_cause not_given (Err (Broken at_opening now)) fine same kept cause = absurd cause
   joined_cause not_given (Err (NumberLimit number)) fine same kept cause = absurd cause
-  joined_cause not_given (Err Memory) fine same kept cause = (cause.0 ∙ same, ⊎_elim (λ is. inl (is.0 ∙ kept is.1)) (λ ended. inr (fine, ended)) cause.1)
+  joined_cause not_given (Err Memory) fine same kept cause = (cause.0 ∙ same, not_broken fine, ⊎_elim (λ is. inl (is.0 ∙ kept is.1)) (λ ended. inr (fine, ended)) cause.1)

@@ -1,6 +1,6 @@
 -- A writer after a group was put behind its newest segment, whatever was answered.
-use Rattle.std.proofs.Common.{◌≡◌, ◌⊎◌, inl, inr, ℕ, ◌+◌, ◌-◌, ◌^◌, ◌<◌, ◌≤◌, Bool, true, false, List, [], ◌∷◌, ◌++◌, length, Option, Some, None, refl, sym, ◌∙◌, ap, subst, arith, IsTrue}
-use Rattle.std.specs.Prelude.{Result, Ok, Err, nat_le, nat_lt, ◌&&◌, take, if◌then◌else◌}
+use Rattle.std.proofs.Common.{◌≡◌, ◌⊎◌, inl, inr, ⊎_elim, ℕ, ◌+◌, ◌-◌, ◌^◌, ◌<◌, ◌≤◌, Bool, true, false, List, [], ◌∷◌, ◌++◌, length, Option, Some, None, IsSome, refl, sym, ◌∙◌, ap, subst, arith, IsTrue}
+use Rattle.std.specs.Prelude.{Result, Ok, Err, OnErr, IsSomeAnd, is_some, nat_le, nat_lt, ◌&&◌, take, if◌then◌else◌}
 use Rattle.std.proofs.lemmas.Bool.{cases_lt, lt-ltb, le-ltb, leb-false}
 use Rattle.std.specs.FinMap.{entries, get}
 use Rattle.frs_types.specs.Records.{Log, IsPlaced}
@@ -19,11 +19,11 @@ use Rattle.frs_segment.specs.Scanning.{places_of_segment}
 use Rattle.frs_writer.specs.Places.{with_chunk_place, with_newest_grown, length_of_newest, number_of_newest}
 use Rattle.frs_writer.specs.LogImages.{new_segment}
 use Rattle.frs_writer.specs.Writer.{WriterView, IsLog, WasEmpty, IsWellOpened}
-use Rattle.frs_writer.specs.Writing.{is_due, segments_after_roll, WritesGroup}
+use Rattle.frs_writer.specs.Writing.{is_due, segments_after_roll, WritesGroup, StopsWrite}
 use Rattle.frs_writer.proofs.GathersGroup.{nothing_gathered}
 use Rattle.frs_writer.proofs.PutsGroup.{kept_grown, kept_failed, images_shown, group_within_lsns}
 use Rattle.frs_writer.proofs.IsRolled.{kept_same}
-use Rattle.frs_writer.proofs.Places.{newest_grown, newest_length}
+use Rattle.frs_writer.proofs.Places.{newest_grown, newest_length, newest_number}
 
 -- the answer and what was put agree
 pub record IsPut {D : Type 0} (g : Ghosts D)
@@ -36,6 +36,16 @@ not_err count fault result ok err = let both : Ok count ≡ Err fault = sym ok �
 
 same_count : (a b : ℕ) (result : Result ℕ Fault) → result ≡ Ok a → result ≡ Ok b → a ≡ b
 same_count a b result one other = let both : Ok a ≡ Ok b = sym one ∙ other in cc
+
+-- whatever was answered
+pub at_refusal : {T E Q : Type 0} (r : Result T E) → Q → OnErr r Q
+at_refusal (Ok x) q = tt
+at_refusal (Err e) q = q
+
+-- there is something where it has a property
+some_has : {X : Type 0} (P : X → Type 0) (o : Option X) → IsSomeAnd o P → IsSome o
+some_has P None is = absurd is
+some_has P (Some x) is = refl
 
 module _ {D : Type 0} (g : Ghosts D) (as_read : (disk : D) → IsTrue (g.tells disk) → g.may_leave disk (g.reads disk))
     (counts_now : (disk : D) (t : ℕ) (c : Image) → t ≤ g.moment disk → g.may_leave disk c → g.left_since disk t c)
@@ -117,6 +127,24 @@ module _ {D : Type 0} (g : Ghosts D) (as_read : (disk : D) → IsTrue (g.tells d
         λ c left. (kept.holds told well log' l placed).each c (only_now w.disk c (subst (λ (x : D). g.left_since x (g.moment w.disk) c) same_disk left))
   ]
 
+  pub err_stops : (fault : Fault) → result ≡ Err fault → (segments : List Segment) → segments ≡ kept.counted.older ++ after ∷ [] → StopsWrite g limit w (view segments w.synced (Some fault))
+  err_stops fault is segments are = elim (cases_lt 0 (length group)) [
+    | inl lt ↦
+        let some : 1 ≤ length group = omega (arith, lt) in
+        let p : PutsGroup g w.disk d newest after group (Err fault) = subst (λ (r : Result ℕ Fault). PutsGroup g w.disk d newest after group r) is (put.some some) in
+        let same : segments ≡ w.segments = are ∙ ap (λ (s : Segment). kept.counted.older ++ s ∷ []) p.refused ∙ sym kept.counted.segments in
+        record {
+          synced = refl;
+          segments = same;
+          there = λ told.
+              let image = images_of some (subst IsTrue p.frame.told told) (g.reads d) (counts_now d (g.moment w.disk) (g.reads d) p.frame.time.later (as_read d told)) in
+              subst (λ (n : ℕ). IsSome (get (g.reads d) n)) (sym (ap number_of_newest (same ∙ kept.counted.segments) ∙ newest_number kept.counted.older newest))
+              (⊎_elim (λ shut. some_has _ (get (g.reads d) newest.number) shut) (λ whole. ap is_some whole) image);
+          gathered = inr (group, some, gathered);
+        }
+    | inr ge ↦ absurd (not_err 0 fault result (put.none (omega (arith, ge))).0 is)
+  ]
+
   pub put_counted : (count : ℕ) → result ≡ Ok count → count ≡ length group
   put_counted count is = elim (cases_lt 0 (length group)) [
     | inl lt ↦
@@ -151,6 +179,16 @@ module _ {D : Type 0} (g : Ghosts D) (as_read : (disk : D) → IsTrue (g.tells d
           ∙ ap (λ (b : Bool). if b then with_newest_grown count (length (joined_records group)) (segments_after_roll w0) else segments_after_roll w0) (sym (le-ltb 0 count (omega (arith, zero))))
     ];
   }
+
+-- where nothing was changed
+pub unchanged_stops : {D : Type 0} (g : Ghosts D) (w : WriterView D) (kept : IsKept g w) → w.ended ≡ None → (limit : ℕ) → StopsWrite g limit w w
+unchanged_stops g w kept fine limit = record {
+  synced = refl;
+  segments = refl;
+  there = λ told. subst (λ (n : ℕ). IsSome (get (g.reads w.disk) n)) (sym (ap number_of_newest kept.counted.segments ∙ newest_number kept.counted.older kept.counted.newest))
+      (some_has _ (get (g.reads w.disk) kept.counted.newest.number) (kept.at_work fine told).gate);
+  gathered = inl fine;
+}
 
 -- where no new segment is due there is room for a group that there is
 pub short_here : {D : Type 0} (g : Ghosts D) (w : WriterView D) (kept : IsKept g w) (fine : w.ended ≡ None)

@@ -1,8 +1,8 @@
 -- What the opening of a writer leaves of the files: half-made ones are removed, and a new segment is made.
-use Rattle.std.specs.Prelude.{◌≡◌, ◌⊎◌, ℕ, List, None, Contains}
+use Rattle.std.specs.Prelude.{◌≡◌, ◌≢◌, ◌⊎◌, ℕ, List, Some, None, All, Contains}
 use Rattle.std.specs.FinMap.{get}
 use Rattle.frs_disk.specs.Disk.{Image, SameElsewhere}
-use Rattle.frs_segment.specs.Front.{IsInTheMaking}
+use Rattle.frs_segment.specs.Front.{IsInTheMaking, empty_segment}
 
 -- the old files, but that some of these are gone
 abbrev pub MissesSome : List ℕ → Image → Image → Type 0
@@ -19,3 +19,9 @@ pub record IsOpening (numbers : List ℕ) (number first : ℕ) (outcomes : Image
   pub by : MissesSome numbers base thinned
   pub elsewhere : SameElsewhere number thinned c
   pub making : IsInTheMaking number first (get c number)
+
+-- these files are gone, the segment is made, and all other files are as they were
+pub record OpensNext (half : List ℕ) (number first : ℕ) (old new : Image) : Type 0 where
+  pub gone : All (λ n. get new n ≡ None) half
+  pub made : get new number ≡ Some (empty_segment number first)
+  pub others : (q : ℕ) → q ≢ number → (Contains half q → ⊥) → get new q ≡ get old q

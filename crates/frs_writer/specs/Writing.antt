@@ -1,5 +1,5 @@
 -- What a call of the writer does: to its segments, to what it has taken, and to what a crash may leave.
-use Rattle.std.specs.Prelude.{◌≡◌, ◌⊎◌, ℕ, ◌+◌, ◌<◌, ◌≤◌, Bool, ◌&&◌, nat_le, nat_lt, false, List, [], ◌∷◌, ◌++◌, length, take, Some, None, Result, Ok, Err, IsTrue, if◌then◌else◌}
+use Rattle.std.specs.Prelude.{◌≡◌, ◌≢◌, ◌⊎◌, ℕ, ◌+◌, ◌<◌, ◌≤◌, Bool, ◌&&◌, nat_le, nat_lt, false, List, [], ◌∷◌, ◌++◌, length, take, Some, None, Result, Ok, Err, IsTrue, if◌then◌else◌}
 use Rattle.std.specs.List.{AllZip}
 use Rattle.std.specs.FinMap.{entries}
 use Rattle.std.specs.FinMap.Entries.{is_sorted}
@@ -10,7 +10,7 @@ use Rattle.frs_disk.specs.declared.disk.Disk.{Ghosts}
 use Rattle.frs_disk.specs.declared.disk.Fault.{Fault}
 use Rattle.frs_disk.specs.declared.disk.Fault.TheVariants as fault
 use Rattle.frs_disk.specs.Disk.{Image, Rose}
-use Rattle.frs_disk.specs.Frames.{IsSynced, LeftNoFile, Within}
+use Rattle.frs_disk.specs.Frames.{IsSynced, IsThere, LeftNoFile, Within}
 use Rattle.frs_types.specs.declared.limits.TheConstants.{NUMBER_LIMIT}
 use Rattle.frs_segment.specs.declared.format.TheConstants.{FILE_LIMIT}
 use Rattle.frs_segment.specs.declared.layout.Segment.{Segment}
@@ -26,6 +26,7 @@ use Rattle.frs_writer.specs.Groups.{joined_records, GathersGroup}
 use Rattle.frs_writer.specs.Places.{number_of_newest, length_of_newest, with_newest_grown}
 use Rattle.frs_writer.specs.Invariant.{ShowsFrom}
 use Rattle.frs_writer.specs.LogImages.{new_segment}
+use Rattle.frs_writer.specs.Setup.{OpensNext}
 use Rattle.frs_writer.specs.Writer.{WriterView, IsLog, WasEmpty, IsWellOpened}
 
 -- ---- segments
@@ -46,11 +47,14 @@ pub record IsRolled {D : Type 0} (old new : WriterView D) : Type 0 where
   pub view : new ≡ record old { disk = new.disk; segments = segments_after_roll old }
   pub here : is_due new ≡ false
 
--- the same disk at the opening, notes and ring, of which it has at most taken more
+-- The same disk at the opening, notes and ring, of which it has at most taken more: what was taken stays, and neither
+-- number of what is known of the ring falls.
 pub record TakesMore {D : Type 0} (old new : WriterView D) : Type 0 where
   pub opened : new.opened ≡ old.opened
   pub noted : new.noted ≡ old.noted
   pub ring : (new.taker.ring ≡ old.taker.ring) × (new.taker.first ≡ old.taker.first)
+  pub known : old.taker.known ≤ new.taker.known
+  pub sure : old.taker.sure ≤ new.taker.sure
   pub more : List (List ℕ)
   pub taken : new.taker.taken ≡ old.taker.taken ++ more
 
@@ -68,11 +72,36 @@ pub record WritesGroup {D : Type 0} (limit count : ℕ) (old new : WriterView D)
       then with_newest_grown count (length (joined_records group)) (segments_after_roll old)
       else segments_after_roll old)
 
+-- a group of one record or more was gathered
+abbrev pub GathersSome : {D : Type 0} → ℕ → WriterView D → WriterView D → Type 0
+GathersSome limit old new = (group : List (List ℕ)) × (1 ≤ length group)
+    × GathersGroup limit old.taker new.taker old.kept new.kept group
+
+-- the next segment was made where it is due, and its file is there
+abbrev pub HasMadeNext : {D : Type 0} → Ghosts D → WriterView D → WriterView D → Type 0
+HasMadeNext g old new = IsTrue (is_due old) × (new.segments ≡ segments_after_roll old)
+    × IsThere g new.disk (number_of_newest new.segments)
+
+-- A write to the newest segment that was refused leaves the segments, and the newest one's file is there. The writer is
+-- ended only behind a group that it has gathered.
+pub record StopsWrite {D : Type 0} (g : Ghosts D) (limit : ℕ) (old new : WriterView D) : Type 0 where
+  pub synced : new.synced ≡ old.synced
+  pub segments : new.segments ≡ old.segments
+  pub there : IsThere g new.disk (number_of_newest new.segments)
+  pub gathered : (new.ended ≡ None) ⊎ GathersSome limit old new
+
+-- What a refusal leaves. Nothing more is durable, and the segments are as they were, or the next one was made. Where none
+-- was due the writer is ended only behind a group that it has gathered.
+pub record IsLeftRefused {D : Type 0} (g : Ghosts D) (limit : ℕ) (old new : WriterView D) : Type 0 where
+  pub synced : new.synced ≡ old.synced
+  pub segments : (new.segments ≡ old.segments) ⊎ HasMadeNext g old new
+  pub cut : is_due old ≡ false → old.ended ≡ None → (new.ended ≡ None) ⊎ GathersSome limit old new
+
 -- ---- why a call was refused
 
 -- `Disk` only where the count has risen in the call, `Broken` only where it had risen before, `NumberLimit` only where
 -- a new segment would have the number 2^62; each but the first leaves the writer as it was, and want of memory does so
--- too unless it has cut a write short.
+-- too unless it has cut a write short. It isn't the answer where the disk's failure has cut one short before.
 abbrev pub HasWriteCause : {D X : Type 0} → Ghosts D → WriterView D → WriterView D → Result X WriteFault → Type 0
 HasWriteCause g old new (Ok count) = (g.faults new.disk ≡ g.faults old.disk) × (old.ended ≡ None) × (new.ended ≡ None)
 HasWriteCause g old new (Err Disk) = Rose (g.faults old.disk) (g.faults new.disk) × (old.ended ≡ None)
@@ -84,7 +113,8 @@ HasWriteCause g old new (Err (NumberLimit number)) =
     (number ≡ NUMBER_LIMIT) × (number_of_newest old.segments + 1 ≡ number) × IsTrue (is_due old) × (old.ended ≡ None)
     × (new ≡ old)
 HasWriteCause g old new (Err Memory) =
-    (g.faults new.disk ≡ g.faults old.disk) × ((new ≡ old) ⊎ ((old.ended ≡ None) × (new.ended ≡ Some fault.Memory)))
+    (g.faults new.disk ≡ g.faults old.disk) × (old.ended ≢ Some fault.Failed)
+    × ((new ≡ old) ⊎ ((old.ended ≡ None) × (new.ended ≡ Some fault.Memory)))
 
 -- of a write to the newest segment: `Memory` before anything was changed only where no room was given
 abbrev pub HasPutCause : {D : Type 0} → Ghosts D → Type 0 → WriterView D → WriterView D → Result ℕ WriteFault → Type 0
@@ -183,8 +213,11 @@ pub record LeavesFound {D : Type 0} (g : Ghosts D) (old new : D) : Type 0 where
   pub whole : IsTrue (g.tells old) → IsWellOpened g old → WasEmpty g old
       → Within g old new (λ c. HoldsLog (LeftNoFile g old) 1 (entries c) [])
 
--- What a crash leaves once it is open: the newest file as it is read; and where there was no file, none is half-made.
-pub record IsDurableAtOpening {D : Type 0} (g : Ghosts D) (old new : D) (number : ℕ) : Type 0 where
+-- What is there once it is open. The half-made files are gone, the next segment is made, and all else is read as before. A
+-- crash leaves the newest file as it is read; and where there was no file, none is half-made.
+pub record IsDurableAtOpening {D : Type 0} (g : Ghosts D) (old new : D) (half : List ℕ) (number first : ℕ)
+    : Type 0 where
+  pub reads : IsTrue (g.tells old) → OpensNext half number first (g.reads old) (g.reads new)
   pub newest : IsTrue (g.tells old) → IsSynced g new number
   pub whole : IsTrue (g.tells old) → IsWellOpened g old → WasEmpty g old
       → (c : Image) → g.may_leave new c → HoldsLog (LeftNoFile g old) 0 (entries c) []

@@ -1,13 +1,12 @@
 // What the opening of a writer takes memory for, and what it does to the disk.
-ghost use Rattle.std.specs.Prelude.{◌≡◌, ◌⊎◌, ◌+◌, ◌<◌, ◌≤◌, ◌++◌, ℕ, Some, None, [], ◌∷◌, IsSome, IsTrue, Contains, All, replicate, IfOk, OnOk};
+ghost use Rattle.std.specs.Prelude.{◌≡◌, ◌⊎◌, ◌+◌, ◌<◌, ◌≤◌, ◌++◌, ℕ, None, [], ◌∷◌, IsSome, IsTrue, Contains, All, replicate, IfOk, OnOk};
 ghost use Rattle.std.specs.List.Sorted.{IsStrictlyIncreasing};
 ghost use Rattle.std.specs.FinMap.{get};
 ghost use Rattle.frs_disk.specs.Disk.{IsNumber, HasCause};
 ghost use Rattle.frs_disk.specs.Frames.{CanBeMade, IsSynced, Within, GoesOn};
-ghost use Rattle.frs_segment.specs.Front.{empty_segment};
 ghost use Rattle.frs_segment.specs.Scanning.{places_of_segment};
 ghost use Rattle.frs_writer.specs.LogImages.{new_segment};
-ghost use Rattle.frs_writer.specs.Setup.{MissesSome, IsMissingSome, IsOpening};
+ghost use Rattle.frs_writer.specs.Setup.{MissesSome, IsMissingSome, IsOpening, OpensNext};
 
 use crate::chunk::Chunk;
 use frs_disk::{Disk, Fault};
@@ -120,8 +119,7 @@ pub(crate) fn open_next<D: Disk>(
     ensures images { IsTrue (D.tells disk.old)
         → Within D.Disk disk.old disk.new (IsOpening half.now number first (D.may_leave disk.old)) }
     ensures made { OnOk result (IsTrue (D.tells disk.old)
-        → (get (D.reads disk.new) number ≡ Some (empty_segment number first))
-        × All (λ n. get (D.reads disk.new) n ≡ None) half.now) }
+        → OpensNext half.now number first (D.reads disk.old) (D.reads disk.new)) }
     ensures durable { OnOk result (IsSynced D.Disk disk.new number) }
     ensures others { IsTrue (D.tells disk.old) → (q : ℕ) → number < q
         → get (D.reads disk.old) q ≡ None → get (D.reads disk.new) q ≡ None }

@@ -11,7 +11,7 @@ ghost use Rattle.frs_slots.specs.Views.{AreOfOneRing, IsTakenUp, HasRoom};
 ghost use Rattle.frs_writer.specs.declared.fault.WriteFault.TheVariants.{NumberLimit};
 ghost use Rattle.frs_writer.specs.Places.{number_of_newest, chunks_of_newest};
 ghost use Rattle.frs_writer.specs.LogImages.{new_segment};
-ghost use Rattle.frs_writer.specs.Writing.{is_due, IsRolled, WritesGroup, TakesMore, LeavesFound, IsDurableAtOpening, LeavesLog, LeavesShown, IsDurable, HasOpeningCause, HasWriteCause, HasPutCause};
+ghost use Rattle.frs_writer.specs.Writing.{is_due, IsRolled, WritesGroup, TakesMore, StopsWrite, IsLeftRefused, LeavesFound, IsDurableAtOpening, LeavesLog, LeavesShown, IsDurable, HasOpeningCause, HasWriteCause, HasPutCause};
 
 use crate::chunk::Chunk;
 use crate::fault::{NotYet, Refused, WriteFault};
@@ -92,7 +92,8 @@ impl<D: Disk> Writer<D> {
         ensures crash { (IfOk result (λ w. LeavesFound D.Disk disk w.disk))
             × IfErr result (λ e. LeavesFound D.Disk disk e.disk) }
         ensures durable { IfOk result
-            (λ w. IsDurableAtOpening D.Disk disk w.disk (found.now.greatest + 1)) }
+            (λ w. IsDurableAtOpening D.Disk disk w.disk found.now.half (found.now.greatest + 1)
+            found.now.next) }
 
         ensures frame { (IfOk result (λ w. GoesOn D.Disk disk w.disk))
             × IfErr result (λ e. GoesOn D.Disk disk e.disk) }
@@ -158,6 +159,7 @@ impl<D: Disk> Writer<D> {
         ensures known { (min self.new.taker.sure (length (E.drawer end.new).drawn)
             ≤ self.new.taker.known)
             × (self.new.taker.known ≤ length (E.drawer end.new).drawn) }
+        ensures taken { (E.drawer end.new).known_taken ≤ length self.new.taker.taken }
         ensures taker { (self.new
             ≡ record self.old { taker = record self.old.taker { known = self.new.taker.known } })
             × (self.old.taker.known ≤ self.new.taker.known) }
@@ -261,12 +263,8 @@ impl<D: Disk> Writer<D> {
         ensures limit { self.old.ended ≡ None → is_due self.old ≡ true
             → number_of_newest self.old.segments + 1 ≡ NUMBER_LIMIT
             → IsErrOf result (NumberLimit NUMBER_LIMIT) }
-        ensures refused { OnErr result (self.new.synced ≡ self.old.synced) }
-        ensures same { (self.new.opened ≡ self.old.opened) × (self.new.noted ≡ self.old.noted) }
-
-        // Of its ring it has at most taken more.
-        ensures taker { (self.new.taker.ring ≡ self.old.taker.ring)
-            × (self.new.taker.first ≡ self.old.taker.first) }
+        ensures refused { OnErr result (IsLeftRefused D.Disk limit self.old self.new) }
+        ensures same { TakesMore self.old self.new }
 
         // What a crash in the call leaves, and what one after it does.
         ensures crash { LeavesLog D.Disk self.old self.new }
@@ -315,8 +313,9 @@ impl<D: Disk> Writer<D> {
         ensures limit { is_due self.old ≡ true
             → number_of_newest self.old.segments + 1 ≡ NUMBER_LIMIT
             → IsErrOf result (NumberLimit NUMBER_LIMIT) }
-        ensures refused { OnErr result (self.new
-            ≡ record self.old { disk = self.new.disk; ended = self.new.ended }) }
+        ensures refused { OnErr result ((self.new
+            ≡ record self.old { disk = self.new.disk; ended = self.new.ended })
+            × (is_due self.old ≡ true)) }
         ensures crash { LeavesLog D.Disk self.old self.new }
         ensures shown { LeavesShown D.Disk self.old self.new }
         ensures frame { GoesOn D.Disk self.old.disk self.new.disk }
@@ -362,7 +361,7 @@ impl<D: Disk> Writer<D> {
             × (vec_len places < vec_capacity places) × (chunks_of_newest self.old.segments ≡ [])) }
         ensures wrote { IfOk result (λ count. WritesGroup limit count self.old self.new) }
         ensures cause { HasPutCause D.Disk (room ≡ None) self.old self.new result }
-        ensures refused { OnErr result (self.new.synced ≡ self.old.synced) }
+        ensures refused { OnErr result (StopsWrite D.Disk limit self.old self.new) }
         ensures same { TakesMore self.old self.new }
         ensures crash { LeavesLog D.Disk self.old self.new }
         ensures durable { OnOk result (IsDurable D.Disk self.old self.new) }

@@ -1,4 +1,4 @@
-use Rattle.std.proofs.Common.{◌∙◌, IsTrue, sym, subst, arith}
+use Rattle.std.proofs.Common.{◌∙◌, ⊎_elim, IsTrue, sym, subst, arith}
 use Rattle.std.proofs.lemmas.Result.{on_ok_weaker}
 use Rattle.frs_disk.specs.Disk.{Image}
 use Rattle.frs_disk.proofs.Frames.{goes_on_join, changes_go_on}
@@ -36,8 +36,11 @@ returns-clause-frame g c =
 pub returns-clause-made : goal.returns-clause-made
 returns-clause-made g c =
     on_ok_weaker c.open_segment.result (λ made told.
-    let mid : IsTrue (g.D.Disk.tells c.remove_all.new.disk) = subst IsTrue (sym c.remove_all.ensures.frame.told) told in (
-      made mid,
-      λ k d lt. c.open_segment.ensures.frame.others mid _ (λ same. omega (arith, same, ((c.requires.half told).1 k d lt).1)) ∙ c.in_ok-remove_all.ensures.gone told k d lt,
-    ))
+    let mid : IsTrue (g.D.Disk.tells c.remove_all.new.disk) = subst IsTrue (sym c.remove_all.ensures.frame.told) told in
+    record {
+      gone = λ k d lt. c.open_segment.ensures.frame.others mid _ (λ same. omega (arith, same, ((c.requires.half told).1 k d lt).1)) ∙ c.in_ok-remove_all.ensures.gone told k d lt;
+      made = made mid;
+      others = λ q other stays.
+          c.open_segment.ensures.frame.others mid q other ∙ ⊎_elim (λ same. same) (λ gone. absurd (stays gone.0)) (c.remove_all.ensures.removed told q);
+    })
     c.open_segment.ensures.made

@@ -9,7 +9,7 @@ use Rattle.frs_engine.proofs.journal.Journal.write.Goals as goal
 pub meet-requires : goal.meet-requires
 meet-requires g c =
     let one_ring = c.requires.published.2.next.drawn.one_ring in
-    (one_ring.0 ∙ sym c.write_group-written.ensures.taker.0, one_ring.1 ∙ sym c.write_group-written.ensures.taker.1)
+    (one_ring.0 ∙ sym c.write_group-written.ensures.same.ring.0, one_ring.1 ∙ sym c.write_group-written.ensures.same.ring.1)
 
 pub returns-in-Ok-clause-written : goal.returns-in-Ok-clause-written
 returns-in-Ok-clause-written g c records r is =
@@ -22,7 +22,7 @@ returns-in-Ok-clause-written g c records r is =
     record {
       written = known_more d mid new (records ++ r ∷ []) new.taker.known
           (one_written d c.in-Ok.field-0 c.args.self.now.writer mid records r is.next.written is.known is.sure front c.in-Ok.ensures.wrote c.in-Ok.ensures.cause.2
-          wrote.same.0 wrote.same.1 wrote.frame.told c.in-Ok.ensures.durable.whole) c.meet.ensures.taker.0;
+          wrote.same.opened wrote.same.noted wrote.frame.told c.in-Ok.ensures.durable.whole) c.meet.ensures.taker.0;
       drawn = record { one_ring = c.meet.ensures.one_ring; drawn = drawn };
     }
 
@@ -31,7 +31,7 @@ returns-in-Ok-clause-images g c records r is placed told none x left =
     let d = g.D.Disk in
     let old = c.args.self.now.writer in
     let drawn : c.meet.new.end.drawn ≡ map spelling (records ++ r ∷ []) = ap (λ e. e.drawn) c.meet.ensures.drawer ∙ is.next.drawn.drawn in
-    met_within d c.write_group-written.new.self c.meet.new.self c.meet.new.self.taker.known c.meet.ensures.taker.0 records r old is.next.written c.write_group-written.ensures.same.0 told none
+    met_within d c.write_group-written.new.self c.meet.new.self c.meet.new.self.taker.known c.meet.ensures.taker.0 records r old is.next.written c.write_group-written.ensures.same.opened told none
     (subst (λ (l : List (List ℕ)). IsPrefix c.meet.new.self.taker.taken l) drawn c.meet.ensures.prefix) placed (c.write_group-written.ensures.crash.whole told) x left
 
 pub returns-in-Err-clause-images : goal.returns-in-Err-clause-images
@@ -39,7 +39,7 @@ returns-in-Err-clause-images g c records r is placed told none x left =
     let d = g.D.Disk in
     let old = c.args.self.now.writer in
     let drawn : c.meet.new.end.drawn ≡ map spelling (records ++ r ∷ []) = ap (λ e. e.drawn) c.meet.ensures.drawer ∙ is.next.drawn.drawn in
-    met_within d c.write_group-written.new.self c.meet.new.self c.meet.new.self.taker.known c.meet.ensures.taker.0 records r old is.next.written c.write_group-written.ensures.same.0 told none
+    met_within d c.write_group-written.new.self c.meet.new.self c.meet.new.self.taker.known c.meet.ensures.taker.0 records r old is.next.written c.write_group-written.ensures.same.opened told none
     (subst (λ (l : List (List ℕ)). IsPrefix c.meet.new.self.taker.taken l) drawn c.meet.ensures.prefix) placed (c.write_group-written.ensures.crash.whole told) x left
 
 pub returns-in-Err-clause-cause : goal.returns-in-Err-clause-cause

@@ -7,11 +7,11 @@ use Rattle.frs_writer.specs.Inside.{view_of}
 use Rattle.frs_writer.specs.Invariant.{IsKept}
 use Rattle.frs_writer.specs.Places.{chunks_of_newest}
 use Rattle.frs_writer.specs.Writer.{WriterView}
-use Rattle.frs_writer.specs.Writing.{is_due, LeavesLog, LeavesShown, IsDurable}
+use Rattle.frs_writer.specs.Writing.{is_due, LeavesLog, LeavesShown, IsDurable, StopsWrite}
 use Rattle.frs_writer.proofs.LeavesLog.{leaves_shown, durable_written, unchanged_leaves}
 use Rattle.frs_writer.proofs.IsRolled.{at_newest}
 use Rattle.frs_writer.proofs.Places.{taken_out, put_back, newest_chunks}
-use Rattle.frs_writer.proofs.WritesGroup.{IsPut, ok_kept, err_kept, put_images, put_wrote, short_here, broke, not_broken, not_due}
+use Rattle.frs_writer.proofs.WritesGroup.{IsPut, at_refusal, ok_kept, err_kept, err_stops, unchanged_stops, put_images, put_wrote, short_here, broke, not_broken, not_due}
 use Rattle.frs_writer.proofs.writer.Writer.write.Goals as goal
 
 if_some : {X : Type 0} (P Q : X → Type 0) (o : Option X) → ((x : X) → P x → Q x) → IfSome o P → IfSome o Q
@@ -55,6 +55,16 @@ returns-in_err-places-clause-crash g c =
     sym (set-get_or w.segments at c.index_mut.result.now) ∙ ap (set w.segments at) (sym c.index_mut.ensures.value ∙ sym c.in_err-places.ensures.refused) in
     subst (λ (v : WriterView g.row.D.Denot). LeavesLog g.D.Disk v (record w { segments = set w.segments at c.take_places.new.segment })) c.self.view_is
     (subst (λ (l : List Segment). LeavesLog g.D.Disk w (record w { segments = l })) same (unchanged_leaves g.D.Disk g.met.D.Disk.only_now w c.self.invariant.kept_is))
+
+pub returns-in_err-places-clause-refused : goal.returns-in_err-places-clause-refused
+returns-in_err-places-clause-refused g c =
+    let w : WriterView g.row.D.Denot = view_of c.self.inside in
+    let fine : w.ended ≡ None = ap (λ (v : WriterView g.row.D.Denot). v.ended) c.self.view_is ∙ c.requires.fine.0 in
+    let at : ℕ = c.len-newest.result - 1 in
+    let same : w.segments ≡ set w.segments at c.take_places.new.segment =
+    sym (set-get_or w.segments at c.index_mut.result.now) ∙ ap (set w.segments at) (sym c.index_mut.ensures.value ∙ sym c.in_err-places.ensures.refused) in
+    at_refusal c.from_residual.result (subst (λ (v : WriterView g.row.D.Denot). StopsWrite g.D.Disk c.args.limit v (record w { segments = set w.segments at c.take_places.new.segment })) c.self.view_is
+    (subst (λ (l : List Segment). StopsWrite g.D.Disk c.args.limit w (record w { segments = l })) same (unchanged_stops g.D.Disk w c.self.invariant.kept_is fine c.args.limit)))
 
 -- ---- where it was written
 
@@ -248,3 +258,33 @@ returns-in-Err-clause-crash g c =
     let now = (invariant_of-self-in-Err g c).kept_is in
     subst (λ (v : WriterView g.row.D.Denot). LeavesLog d v last) c.self.view_is
     (leaves_shown d w last now (λ told. subst IsTrue (kept.told ∙ sym now.told) told) (omega (arith, kept.counted.first, gathered.ring.1)) shown)
+
+pub returns-in-Err-clause-refused : goal.returns-in-Err-clause-refused
+returns-in-Err-clause-refused g c =
+    let d = g.D.Disk in
+    let w : WriterView g.row.D.Denot = view_of c.self.inside in
+    let kept = c.self.invariant.kept_is in
+    let fine : w.ended ≡ None = ap (λ (v : WriterView g.row.D.Denot). v.ended) c.self.view_is ∙ c.requires.fine.0 in
+    let here : is_due w ≡ false = ap is_due c.self.view_is ∙ c.requires.fine.1 in
+    let counted = kept.counted in
+    let mid = c.put_group-written.new.disk in
+    let t = c.put_group-written.new.taker in
+    let still = c.put_group-written.new.kept in
+    let after = c.put_group-written.new.segment in
+    let at : ℕ = c.len-newest.result - 1 in
+    let at_is = ap (λ (n : ℕ). n - 1) (c.len-newest.ensures ∙ c.self.inside.segments.ok.0) in
+    let segments : List Segment = set (set w.segments at c.take_places.new.segment) at after in
+    let (group, gathered, none, some) = c.put_group-written.ensures.put in
+    let before = taken_out w.segments counted.older counted.newest c.index_mut.result.now c.take_places.new.segment c.index_mut-2.result.now c.in_ok-places.places.items at
+    counted.segments at_is c.index_mut.ensures.value c.in_ok-places.ensures.taken.0 c.in_ok-places.ensures.rest c.index_mut-2.ensures.value in
+    let put : IsPut d w.disk mid counted.newest after group c.put_group-written.result = record {
+      none = λ zero. let (ok, same, segment) = none zero in (ok, same, segment ∙ before);
+      some = λ one. subst (λ (s : Segment). PutsGroup d w.disk mid s after group c.put_group-written.result) before (some one);
+    } in
+    let back : segments ≡ counted.older ++ after ∷ [] = put_back w.segments counted.older counted.newest c.take_places.new.segment after at counted.segments at_is in
+    let short = short_here d w kept fine c.args.limit t still group gathered here in
+    let last : WriterView g.row.D.Denot = record { opened = w.opened; disk = mid; taker = t; kept = still; segments = segments; noted = w.noted; synced = w.synced; ended = Some c.in-Err.fault } in
+    subst (λ (v : WriterView g.row.D.Denot). StopsWrite d c.args.limit v last) c.self.view_is
+    (err_stops d g.met.D.Disk.as_read g.met.D.Disk.counts_now g.met.D.Disk.only_now w kept fine
+    c.args.limit c.requires.limit.1 t still group gathered mid after c.put_group-written.result put short
+    c.in-Err.fault c.in-Err.is segments back)
