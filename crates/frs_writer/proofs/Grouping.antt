@@ -19,7 +19,8 @@ use Rattle.frs_writer.specs.Invariant.{IsCounted, AreWritten, durable_of}
 use Rattle.frs_writer.specs.LogImages.{EndsWithSegment}
 use Rattle.frs_writer.specs.Writer.{WriterView, IsLog}
 use Rattle.frs_writer.proofs.NewestFile.{last_get}
-use Rattle.frs_writer.proofs.Parted.{part, joined_body, with_more, placed_less}
+use Rattle.frs_writer.proofs.LongerLog.{with_more}
+use Rattle.frs_writer.proofs.Parted.{part, joined_body, placed_less}
 use Rattle.frs_writer.proofs.IsPlaced.{placed_allowed, allowed_back, allowed_front}
 use Rattle.frs_writer.proofs.Places.{same_newest}
 

@@ -9,6 +9,7 @@ pub mod IsPlaced
 mod IsRolled
 mod IsShut
 mod LeavesLog
+pub mod LongerLog
 mod MissesSome
 mod NewestFile
 mod NumbersOf

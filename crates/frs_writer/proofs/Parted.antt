@@ -6,6 +6,7 @@ use Rattle.frs_types.specs.Records.{Log, IsPlaced}
 use Rattle.frs_frame.specs.Spelling.{spelling}
 use Rattle.frs_segment.specs.Segments.{body}
 use Rattle.frs_writer.specs.Groups.{joined_records}
+use Rattle.frs_writer.proofs.LongerLog.{with_more}
 use Rattle.frs_writer.proofs.IsPlaced.{placed_front}
 
 -- the parts of a list whose image falls into parts
@@ -30,9 +31,6 @@ joined_body [] = refl
 joined_body (r ∷ rs) = ap (λ (b : List ℕ). spelling r ++ b) (joined_body rs)
 
 -- ---- a log with more records
-
-abbrev pub with_more : Log → List Record → Log
-with_more log more = record log { records = log.records ++ more }
 
 pub placed_less : (log : Log) (more : List Record) → IsPlaced (with_more log more) → IsPlaced log
 placed_less log more placed = placed_front 0 log.first log.records more placed

@@ -1,46 +1,28 @@
 -- How a roll and a write behind it join into a call of `write_group`.
-use Rattle.std.proofs.Common.{◌≡◌, ◌⊎◌, inl, inr, ⊎_elim, ℕ, ◌+◌, ◌-◌, ◌≤◌, Bool, true, false, List, [], ◌++◌, length, None, refl, sym, ◌∙◌, ap, subst, arith, append_assoc, length-append, IsTrue}
+use Rattle.std.proofs.Common.{◌≡◌, ◌⊎◌, inl, inr, ⊎_elim, ℕ, ◌+◌, ◌≤◌, Bool, true, false, List, [], ◌++◌, length, None, refl, sym, ◌∙◌, ap, subst, arith, append_assoc, IsTrue}
 use Rattle.std.specs.Prelude.{Result, Ok, Err, nat_lt, if◌then◌else◌}
-use Rattle.std.proofs.lemmas.List.{take-append-le, append-nil}
+use Rattle.std.proofs.lemmas.List.{append-nil}
 use Rattle.std.specs.FinMap.{entries}
 use Rattle.frs_types.specs.declared.record.Record.{Record}
-use Rattle.frs_types.specs.Records.{Log, IsPlaced, from_lowest}
+use Rattle.frs_types.specs.Records.{Log, IsPlaced}
 use Rattle.frs_disk.specs.declared.disk.Disk.{Ghosts}
 use Rattle.frs_disk.specs.Disk.{Image, Rose}
 use Rattle.frs_disk.specs.Frames.{Within, GoesOn, LeftNoFile}
 use Rattle.frs_disk.proofs.Moments.{within_join}
 use Rattle.frs_segment.specs.declared.layout.Segment.{Segment}
-use Rattle.frs_segment.specs.Segments.{FileList, Spells}
+use Rattle.frs_segment.specs.Segments.{Spells}
 use Rattle.frs_slots.specs.Views.{TakerView}
 use Rattle.frs_writer.specs.declared.fault.WriteFault.{WriteFault}
 use Rattle.frs_writer.specs.declared.fault.WriteFault.TheVariants.{Disk, Broken, NumberLimit, Memory}
 use Rattle.frs_writer.specs.Groups.{joined_records, GathersGroup}
 use Rattle.frs_writer.specs.Invariant.{ShowsFrom}
-use Rattle.frs_writer.specs.LogImages.{ShowsLog}
 use Rattle.frs_writer.specs.Places.{with_newest_grown}
 use Rattle.frs_writer.specs.Writer.{WriterView, IsLog, WasEmpty, IsWellOpened}
 use Rattle.frs_writer.specs.Writing.{is_due, WritesGroup, StopsWrite, IsLeftRefused, HasMadeNext, IsRolled, TakesMore, SpellsFrom, HoldsFrom, LeavesLog, LeavesShown, IsDurable, HasWriteCause, HasPutCause}
-use Rattle.frs_writer.proofs.Parted.{part, with_more, placed_less}
+use Rattle.frs_writer.proofs.Parted.{part, placed_less}
+use Rattle.frs_writer.proofs.LongerLog.{with_more, spells_more, shows_more}
 use Rattle.frs_writer.proofs.HoldsLog.{from_whole}
 use Rattle.frs_writer.proofs.WritesGroup.{not_due, not_broken}
-
--- ---- a log with more records
-
-spells_more : (synced : ℕ) (log log' : Log) (more : List Record) (c : Image) → log' ≡ with_more log more → SpellsFrom synced log c → SpellsFrom synced log' c
-spells_more synced log log' more c is (n, least, most, spells) = subst (λ (l : Log). SpellsFrom synced l c) (sym is) (
-  n,
-  least,
-  omega (arith, most, length-append log.records more),
-  subst (λ (l : List Record). Spells (entries c) (from_lowest log.first l)) (sym (take-append-le (n + 1 - log.first) log.records more (omega (arith, most)))) spells,
-)
-
-shows_more : {alone fresh : Type 0} (synced : ℕ) (log log' : Log) (more : List Record) (image : FileList) → log' ≡ with_more log more → ShowsFrom alone fresh synced log image → ShowsFrom alone fresh synced log' image
-shows_more {alone = alone} {fresh = fresh} synced log log' more image is (n, least, most, shows) = subst (λ (l : Log). ShowsFrom alone fresh synced l image) (sym is) (
-  n,
-  least,
-  omega (arith, most, length-append log.records more),
-  subst (λ (l : List Record). ShowsLog alone fresh image log.first l) (sym (take-append-le (n + 1 - log.first) log.records more (omega (arith, most)))) shows,
-)
 
 -- The log of a writer before it has taken more.
 record LogBefore {D : Type 0} (g : Ghosts D) (w : WriterView D) (log' : Log) : Type 0 where
