@@ -1,0 +1,8 @@
+mod Agreement
+mod Answered
+mod IsNew
+mod Listed
+mod Oldest
+mod SlotAt
+mod Shown
+mod Tables

@@ -1,0 +1,7 @@
+-- The first row is the oldest entry.
+use Rattle.frs_objects.specs.Slots.{slot_at}
+use Rattle.frs_objects.proofs.Oldest.{least_of_rows}
+use Rattle.frs_objects.proofs.index.Index.lowest.Goals as goal
+
+pub returns-in-Some : goal.returns-in-Some
+returns-in-Some c a = least_of_rows (slot_at c.args.self.now.places.maps) c.args.self.now.entries.entries a _ _ c.in-Some.ensures.first

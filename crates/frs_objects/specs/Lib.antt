@@ -1,0 +1,3 @@
+pub mod Index
+pub mod Objects
+pub mod Slots
