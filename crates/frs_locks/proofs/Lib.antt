@@ -1,0 +1,5 @@
+pub mod IndexAnswers
+pub mod Reached
+pub mod Rounds
+pub mod Indexed
+pub mod Found
