@@ -1,5 +1,5 @@
 -- When the entries by LSN and the places hold the same entries, and what they show.
-use Rattle.std.specs.Prelude.{ℕ, ◌+◌, ◌==◌, Bool, true, false, ◌≡◌, ⊤, List, [], ◌∷◌, Option, Some, None, if◌then◌else◌}
+use Rattle.std.specs.Prelude.{ℕ, ◌+◌, ◌^◌, ◌<◌, ◌==◌, Bool, true, false, ◌≡◌, ⊤, List, [], ◌∷◌, Option, Some, None, if◌then◌else◌}
 use Rattle.std.specs.List.{list_any}
 use Rattle.std.specs.List.Sorted.{IsStrictlySortedBy}
 use Rattle.std.specs.Ordering.{nat_cmp}
@@ -9,6 +9,8 @@ use Rattle.std.specs.FinMap.Entries.{put}
 use Rattle.frs_types.specs.declared.record.Entry.{Entry}
 use Rattle.frs_types.specs.Maps.{Place, Table, place_cmp, same_place}
 use Rattle.frs_types.specs.Lawful.{StoredValue}
+use Rattle.frs_objects.specs.declared.op.Op.{Op}
+use Rattle.frs_objects.specs.declared.op.Op.TheVariants.{Put, Remove, Delete}
 use Rattle.frs_objects.specs.declared.places.Slot.{Slot}
 use Rattle.frs_objects.specs.declared.index.Index.{Index}
 use Rattle.frs_objects.specs.Slots.{slot_at, settled}
@@ -94,3 +96,9 @@ table_in a = table_by a.entries.entries
 -- an LSN and a place are kept for a put
 abbrev pub KeepsFor : Index → Place → ℕ → Type 0
 KeepsFor a p lsn = (puts : List (Place × ℕ)) × IsIndex a ((p, lsn) ∷ puts)
+
+-- the LSN of a put is new to the index, and one more put can need its place
+abbrev pub HasRoomFor : Index → Op → Type 0
+HasRoomFor a (Put id key value lsn) =
+    (row_at a.entries.entries lsn ≡ None) × (wanted_in (slot_at a.places.maps (id, key)) + 1 < 2 ^ 64)
+HasRoomFor a other = ⊤

@@ -1,5 +1,5 @@
 //! The index: entries by LSN, and at each place the LSN of its entry.
-ghost use Rattle.std.specs.Prelude.{◌≡◌, ◌==◌, ◌+◌, ◌<◌, ◌^◌, ℕ, List, [], ◌∷◌, cond, not, None, Some, true, false, IsSome, MatchResult, OnOk, option_copied, length, map, ⊤};
+ghost use Rattle.std.specs.Prelude.{◌≡◌, ◌==◌, ◌+◌, ◌<◌, ◌^◌, ℕ, List, [], ◌∷◌, cond, not, None, Some, true, false, IsSome, MatchResult, OnOk, OnErr, option_copied, length, map, ⊤};
 ghost use Rattle.std.specs.List.{list_any};
 ghost use Rattle.std.specs.List.Sorted.{IsStrictlySortedBy};
 ghost use Rattle.std.specs.Map.{keys_of};
@@ -7,13 +7,14 @@ ghost use Rattle.std.specs.Ordering.{nat_cmp};
 ghost use Rattle.std.specs.Cmp.Lexicographic.{slice_cmp};
 ghost use Rattle.std.specs.Str.{bytes_eq};
 ghost use Rattle.std.specs.FinMap.Entries.{put, where_key};
-ghost use Rattle.frs_types.specs.Maps.{Place, place_cmp, same_place, at};
+ghost use Rattle.frs_types.specs.Maps.{Place, place_cmp, same_place, at, table_after, table_after_all};
 ghost use Rattle.frs_types.specs.Lawful.{StoredValue};
 ghost use Rattle.frs_objects.specs.Slots.{slot_at};
 ghost use Rattle.frs_objects.specs.declared.places.Slot.{Slot as Held};
-ghost use Rattle.frs_objects.specs.Objects.{stored_by, entry_at, oldest_entry, least_lsn, with_put, puts_among, put_lsns, change_by, AreNew};
-ghost use Rattle.frs_objects.specs.Index.{row_at, entry_under, is_blank, is_lsn, wanted_in, IsIndex, KeepsFor, table_in};
+ghost use Rattle.frs_objects.specs.Objects.{stored_by, entry_at, oldest_entry, least_lsn, lsn_of_place, with_lsn, with_put, puts_among, put_lsns, change_by, AreNew};
+ghost use Rattle.frs_objects.specs.Index.{row_at, entry_under, HasRoomFor, is_blank, is_lsn, wanted_in, IsIndex, KeepsFor, table_in};
 
+use crate::op::Op;
 use crate::places::{Places, Slot};
 use frs_types::{Entry, Key, MapId, NoMemory};
 use std::alloc::Global;
@@ -205,6 +206,36 @@ impl Index {
         self.fill(wanted, Entry { lsn: to, ..entry });
     }
 
+    /// The LSN of the entry at a place, or 0.
+    pub fn lsn(&self, id: &MapId, key: &Key) -> u64
+        ensures { IsIndex self.now [] → result ≡ lsn_of_place (table_in self.now) (id.now, key.now) }
+    {
+        match self.get(id, key) {
+            Some(entry) => entry.lsn,
+            None => 0,
+        }
+    }
+
+    /// Puts the entry at a place, where there is one, under another LSN. After want of memory all is as it was.
+    pub fn move_lsn(
+        &mut self,
+        alloc: Global,
+        id: &MapId,
+        key: &Key,
+        to: u64,
+    ) -> Result<(), NoMemory>
+        requires index { IsIndex self.old [] }
+        requires entry { IsSome (at (table_in self.old) (id.now, key.now)) }
+        requires new { AreNew (table_in self.old) (to ∷ []) }
+        ensures index { IsIndex self.new [] }
+        ensures moved { OnOk result (table_in self.new ≡ with_lsn (table_in self.old) (id.now, key.now) to) }
+        ensures refused { OnErr result (table_in self.new ≡ table_in self.old) }
+    {
+        self.reserve(alloc, id, key, to)?;
+        self.relabel(id, key, to);
+        Ok(())
+    }
+
     /// Takes the entry at a place out. Takes no memory.
     pub fn take(&mut self, id: &MapId, key: &Key)
         ensures taken { (puts : List (Place × ℕ)) → IsIndex self.old puts → IsIndex self.new puts }
@@ -236,6 +267,101 @@ impl Index {
         };
         remove_all(&mut self.entries, map);
         self.places.empty(id);
+    }
+}
+
+impl Index {
+    // Keeps what a change needs, where it is a put.
+    fn reserve_op(&mut self, alloc: Global, op: &Op) -> Result<(), NoMemory>
+        requires { HasRoomFor self.old op.now }
+        ensures kept { (puts : List (Place × ℕ)) → IsIndex self.old puts → MatchResult result
+            (λ _. IsIndex self.new (with_put op.now puts)) (λ _. IsIndex self.new puts) }
+        ensures shown { (puts : List (Place × ℕ)) → IsIndex self.old puts
+            → table_in self.new ≡ table_in self.old }
+    {
+        match op {
+            Op::Put { id, key, lsn, .. } => self.reserve(alloc, id, key, *lsn),
+            _ => Ok(()),
+        }
+    }
+
+    // Keeps what a change needs no more.
+    fn release_op(&mut self, op: &Op)
+        requires { (puts : List (Place × ℕ)) × IsIndex self.old (with_put op.now puts) }
+        ensures kept { (puts : List (Place × ℕ)) → IsIndex self.old (with_put op.now puts)
+            → IsIndex self.new puts }
+        ensures shown { (puts : List (Place × ℕ)) → IsIndex self.old (with_put op.now puts)
+            → table_in self.new ≡ table_in self.old }
+    {
+        if let Op::Put { id, key, lsn, .. } = op {
+            self.release(id, key, *lsn);
+        }
+    }
+
+    // Makes a change, for which all is kept that it needs.
+    fn commit_op(&mut self, op: Op)
+        requires { (puts : List (Place × ℕ)) × IsIndex self.old (with_put op puts) }
+        ensures made { (puts : List (Place × ℕ)) → IsIndex self.old (with_put op puts)
+            → IsIndex self.new puts }
+        ensures shown { (puts : List (Place × ℕ)) → IsIndex self.old (with_put op puts)
+            → table_in self.new ≡ table_after (table_in self.old) (change_by op) }
+    {
+        match op {
+            Op::Put {
+                id,
+                key,
+                value,
+                lsn,
+            } => self.commit(Entry {
+                id,
+                key,
+                value,
+                lsn,
+            }),
+            Op::Remove { id, key } => self.take(&id, &key),
+            Op::Delete { id } => self.clear(&id),
+        }
+    }
+
+    /// Keeps what changes need, from the last one to the first. After want of memory nothing is kept.
+    pub fn reserve_all(&mut self, alloc: Global, ops: &[Op]) -> Result<(), NoMemory>
+        requires index { IsIndex self.old [] }
+        requires new { AreNew (table_in self.old) (put_lsns (puts_among ops.now)) }
+        ensures kept { MatchResult result (λ _. IsIndex self.new (puts_among ops.now)) (λ _. IsIndex self.new []) }
+        ensures shown { table_in self.new ≡ table_in self.old }
+    {
+        let mut left = ops.len();
+        while left > 0 {
+            if self.reserve_op(alloc, &ops[left - 1]).is_err() {
+                self.release_all(&ops[left..]);
+                return Err(NoMemory);
+            }
+            left -= 1;
+        }
+        Ok(())
+    }
+
+    // Keeps what changes need no more.
+    fn release_all(&mut self, ops: &[Op])
+        requires { IsIndex self.old (puts_among ops.now) }
+        ensures kept { IsIndex self.new [] }
+        ensures shown { table_in self.new ≡ table_in self.old }
+    {
+        for op in ops {
+            self.release_op(op);
+        }
+    }
+
+    /// Makes changes in order, for which all is kept that they need. Takes no memory.
+    pub fn commit_all(&mut self, ops: Vec<Op>)
+        requires { IsIndex self.old (puts_among ops.items) }
+        ensures made { IsIndex self.new [] }
+        ensures shown { table_in self.new
+            ≡ table_after_all (table_in self.old) (map change_by ops.items) }
+    {
+        for op in ops {
+            self.commit_op(op);
+        }
     }
 }
 

@@ -1,12 +1,17 @@
 //! The committed maps.
-ghost use Rattle.std.specs.Prelude.{◌≡◌, length, option_copied, IfOk};
+ghost use Rattle.std.specs.Prelude.{◌≡◌, ◌≢◌, ◌<◌, [], ◌∷◌, map, length, option_copied, Err, OnOk, OnErr, IfOk, MatchResult};
+ghost use Rattle.frs_types.specs.Maps.{table_after_all};
 ghost use Rattle.frs_types.specs.Lawful.{table_of};
-ghost use Rattle.frs_objects.specs.Objects.{entry_at, oldest_entry, least_lsn, HaveOwnNumbers};
+ghost use Rattle.frs_objects.specs.declared.fault.MoveFault.TheVariants.{Changed, Memory};
+ghost use Rattle.frs_objects.specs.Objects.{entry_at, oldest_entry, least_lsn, puts_among, put_lsns, change_by, AreNew, HaveOwnNumbers, lsn_of_place, with_lsn};
 
+use crate::fault::MoveFault;
 use crate::index::Index;
+use crate::op::Op;
 use frs_types::{Entry, Key, MapId, NoMemory};
 use std::alloc::Global;
 use std::marker::Model;
+use std::mem;
 
 /// The committed maps. Contracts see them as the table of entries: at each place, the id of a map and a key of it, at
 /// most one value with the LSN of the record from which it comes.
@@ -67,5 +72,48 @@ impl Objects {
         ensures { result ≡ length self.now }
     {
         self.index.live()
+    }
+
+    /// Makes these changes in order, and leaves `ops` empty. Of puts, removes and deletes of one key the last one
+    /// counts. After want of memory both are as they were. Its LSNs are new and rising.
+    pub fn apply(&mut self, alloc: Global, ops: &mut Vec<Op>) -> Result<(), NoMemory>
+        requires { AreNew self.old (put_lsns (puts_among ops.old.items)) }
+        ensures applied { OnOk result (self.new ≡ table_after_all self.old (map change_by ops.old.items)) }
+        ensures emptied { OnOk result (ops.new.items ≡ []) }
+        ensures refused { OnErr result (self.new ≡ self.old) }
+        ensures kept { OnErr result (ops.new.items ≡ ops.old.items) }
+    {
+        self.index.reserve_all(alloc, ops.as_slice())?;
+        let made = mem::replace(ops, Vec::new(alloc));
+        self.index.commit_all(made);
+        Ok(())
+    }
+
+    /// Puts the entry of a key under another LSN, which is new. `Changed` exactly where its LSN isn't `from`, which is
+    /// above 0, and `Memory` where there was none; then the maps are as they were.
+    pub fn move_lsn(
+        &mut self,
+        alloc: Global,
+        id: &MapId,
+        key: &Key,
+        from: u64,
+        to: u64,
+    ) -> Result<(), MoveFault>
+        requires from { 0 < from }
+        requires new { AreNew self.old (to ∷ []) }
+        ensures moved { lsn_of_place self.old (id.now, key.now) ≡ from → MatchResult result
+            (λ _. self.new ≡ with_lsn self.old (id.now, key.now) to) (λ fault. fault ≡ Memory) }
+        ensures changed { lsn_of_place self.old (id.now, key.now) ≢ from
+            → result ≡ Err (Changed (lsn_of_place self.old (id.now, key.now))) }
+        ensures refused { OnErr result (self.new ≡ self.old) }
+    {
+        let found = self.index.lsn(id, key);
+        if found != from {
+            return Err(MoveFault::Changed { found });
+        }
+        if self.index.move_lsn(alloc, id, key, to).is_err() {
+            return Err(MoveFault::Memory);
+        }
+        Ok(())
     }
 }
