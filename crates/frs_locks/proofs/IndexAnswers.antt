@@ -1,5 +1,5 @@
 -- What the index says once something of one map is another.
-use Rattle.std.proofs.Common.{◌≡◌, ◌≢◌, ⊎_elim, ℕ, Bool, true, false, cond, ◌&&◌, ◌||◌, Result, Ok, Err, OnErr, IsSome, List, [], ◌∷◌, Option, None, Some, refl, sym, ◌∙◌, ap, subst, Ordering, Less, Equal, Greater, nat_cmp, is_eq, get_or, replicate, ◌≤◌}
+use Rattle.std.proofs.Common.{◌≡◌, ⊎_elim, ℕ, Bool, true, false, cond, ◌&&◌, ◌||◌, Result, Ok, Err, IfErr, IsSome, List, [], Option, None, Some, refl, sym, ◌∙◌, ap, subst, Ordering, Less, Equal, Greater, nat_cmp, is_eq, get_or, replicate, ◌≤◌}
 use Rattle.std.specs.Prelude.{◌==◌, if◌then◌else◌, is_some, slice_index_or}
 use Rattle.std.specs.BTreeMap.{BTreeMap, get, is_at}
 use Rattle.std.specs.Cmp.Lexicographic.{slice_cmp, texts_ties, nat_list_eq_equiv}
@@ -8,7 +8,6 @@ use Rattle.std.specs.Map.{lookup}
 use Rattle.std.proofs.lemmas.Bool.{cases_lt}
 use Rattle.std.proofs.lemmas.List.{get_or-replicate, get_or_past, length-replicate}
 use Rattle.std.proofs.lemmas.Map.Lookups.{exact_bytes}
-use Rattle.std.proofs.lemmas.Slice.Eq.{bytes_eq-Decides}
 use Rattle.frs_locks.specs.declared.map_locks.MapLocks.{MapLocks}
 use Rattle.frs_locks.specs.Index.{SaysSame, map_at, is_client, holds_map, holds_key, holds_some_key}
 
@@ -34,10 +33,6 @@ each_map P m n id w h here others q = subst (λ o. P o q) (sym (h q)) (at (slice
 pub says_same : (m : Option MapLocks) → SaysSame m m
 says_same m = record { map = λ d. refl; key = λ k d. refl; some_key = λ d. refl }
 
-pub none_there : {A : Type 0} (o : Option A) → is_some o ≡ false → o ≡ None
-none_there None h = refl
-none_there (Some x) h = absurd cc
-
 pub never : (n d : ℕ) → get_or (replicate n false) d false ≡ false
 never n d = ⊎_elim (λ lt. get_or-replicate n d false false lt) (λ le. get_or_past _ d false (subst (λ k. k ≤ d) (sym (length-replicate n false)) le)) (cases_lt d n)
 
@@ -48,11 +43,15 @@ empty_map m q e = ap (λ es. lookup (is_at (slice_cmp nat_cmp q)) es) e
 pub same_made : (m n : BTreeMap (List ℕ) MapLocks) (id copy : List ℕ) (new : MapLocks) → copy ≡ id → is_some (map_at m id) ≡ false → SaysSame None (Some new)
     → ((q : List ℕ) → map_at n q ≡ cond (is_at (slice_cmp nat_cmp copy) q) (Some new) (map_at m q)) → (q : List ℕ) → SaysSame (map_at m q) (map_at n q)
 same_made m n id copy new is absent nothing h = each_map (λ o q. SaysSame (map_at m q) o) m n copy (Some new) h
-    (subst (λ o. SaysSame o (Some new)) (sym (ap (map_at m) is ∙ none_there _ absent)) nothing) (λ q other. says_same (map_at m q))
+    (subst (λ o. SaysSame o (Some new)) (sym (ap (map_at m) is ∙ gone (map_at m id) absent)) nothing) (λ q other. says_same (map_at m q))
+  where
+    gone : (o : Option MapLocks) → is_some o ≡ false → o ≡ None
+    gone None e = refl
+    gone (Some x) e = absurd cc
 
-pub on_err_of : {V E P : Type 0} (r : Result V E) → P → OnErr r P
-on_err_of (Ok v) p = tt
-on_err_of (Err e) p = p
+pub if_err_all : {V E : Type 0} {P : E → Type 0} (r : Result V E) → ((e : E) → P e) → IfErr r P
+if_err_all (Ok v) p = tt
+if_err_all (Err e) p = p e
 
 -- n has another entry at one map, of which m has an entry
 module _ (m n : BTreeMap (List ℕ) MapLocks) (id : List ℕ) (e f : MapLocks) (was : Some e ≡ map_at m id)

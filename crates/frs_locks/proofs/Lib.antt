@@ -1,5 +1,5 @@
 pub mod IndexAnswers
-pub mod Reached
+pub mod NoRing
 pub mod Rounds
-pub mod Indexed
-pub mod Found
+pub mod IndexChanges
+pub mod SoundLocks

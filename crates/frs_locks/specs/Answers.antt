@@ -1,5 +1,5 @@
 -- What a client that wants a lock is told, and what the holders are afterwards.
-use Rattle.std.specs.Prelude.{◌≡◌, ℕ, Bool, false, true, List, [], ◌∷◌, Option, None, Some, length, slice_set}
+use Rattle.std.specs.Prelude.{◌≡◌, ℕ, false, true, List, [], ◌∷◌, Option, None, Some, length, slice_set}
 use Rattle.frs_types.specs.declared.lock.Lock.{Lock}
 use Rattle.frs_types.specs.Locks.{Holders, holder_at, nobody, with_lock, with_wait, hinderers, is_reached, ring, via}
 use Rattle.frs_locks.specs.declared.want.Want.{Want}

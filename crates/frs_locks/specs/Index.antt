@@ -1,6 +1,7 @@
 -- The index of the locks by their maps, and what it says.
 use Rattle.std.specs.Prelude.{◌≡◌, ◌≢◌, ℕ, ◌+◌, ◌≤◌, Bool, true, false, ◌||◌, ◌==◌, List, length, Option, None, Some, slice_index_or}
 use Rattle.std.specs.List.{list_any}
+use Rattle.std.specs.Option.{option_eq}
 use Rattle.std.specs.Ordering.{nat_cmp}
 use Rattle.std.specs.Str.{bytes_eq}
 use Rattle.std.specs.BTreeMap.{BTreeMap, get}
@@ -17,8 +18,7 @@ abbrev pub map_at : BTreeMap (List ℕ) MapLocks → List ℕ → Option MapLock
 map_at maps id = get (slice_cmp nat_cmp) maps id
 
 abbrev pub is_client : Option ℕ → ℕ → Bool
-is_client None d = false
-is_client (Some c) d = c == d
+is_client o d = option_eq ◌==◌ o (Some d)
 
 -- client d holds the lock on the map
 abbrev pub holds_map : Option MapLocks → ℕ → Bool
@@ -71,7 +71,7 @@ abbrev pub is_against : Option ℕ → Option ℕ → List Bool → ℕ → Bool
 is_against whole key clients d = is_client whole d || (is_client key d || slice_index_or clients d false)
 
 -- the index says what the holders say, nobody waits for itself, and client 0 has a place of its own
-pub record IsSound (maps : BTreeMap (List ℕ) MapLocks) (hs : Holders) : Type 0 where
+pub record AreSoundLocks (maps : BTreeMap (List ℕ) MapLocks) (hs : Holders) : Type 0 where
   pub indexed : IsIndexOf maps hs
   pub ringless : IsRingless hs
   pub some : 2 ≤ length hs

@@ -37,10 +37,12 @@ pub fn take_key(
     ensures map { OnOk result ((q : List ℕ) (d : ℕ) → holds_map (map_at maps.new q) d
         ≡ holds_map (map_at maps.old q) d) }
     ensures key { OnOk result ((q k : List ℕ) (d : ℕ) → holds_key (map_at maps.new q) k d
-        ≡ if bytes_eq q id.now && bytes_eq k key then client == d else holds_key (map_at maps.old q) k d) }
+        ≡ if bytes_eq q id.now && bytes_eq k key then client == d
+        else holds_key (map_at maps.old q) k d) }
     ensures some_key { OnOk result ((q : List ℕ) (d : ℕ) → holds_some_key (map_at maps.new q) d
         ≡ ((bytes_eq q id.now && (client == d)) || holds_some_key (map_at maps.old q) d)) }
-    ensures refused { OnErr result ((q : List ℕ) → SaysSame (map_at maps.old q) (map_at maps.new q)) }
+    ensures refused { OnErr result ((q : List ℕ)
+        → SaysSame (map_at maps.old q) (map_at maps.new q)) }
 {
     if let Some(m) = maps.get_mut(id) {
         m.take_key(client, key)?;
@@ -69,9 +71,11 @@ pub fn drop_key(maps: &mut BTreeMap<MapId, MapLocks>, client: u32, id: &MapId, k
     ensures map { (q : List ℕ) (d : ℕ) → holds_map (map_at maps.new q) d
         ≡ holds_map (map_at maps.old q) d }
     ensures key { (q k : List ℕ) (d : ℕ) → holds_key (map_at maps.new q) k d
-        ≡ if bytes_eq q id.now && bytes_eq k key.now then false else holds_key (map_at maps.old q) k d }
+        ≡ if bytes_eq q id.now && bytes_eq k key.now then false
+        else holds_key (map_at maps.old q) k d }
     ensures some_key { (q : List ℕ) (d : ℕ) → holds_some_key (map_at maps.new q) d
-        ≡ if bytes_eq q id.now && (client == d) then false else holds_some_key (map_at maps.old q) d }
+        ≡ if bytes_eq q id.now && (client == d) then false
+        else holds_some_key (map_at maps.old q) d }
 {
     if let Some(m) = maps.get_mut(id) {
         m.drop_key(client, key);
@@ -103,7 +107,8 @@ pub fn take_lock(
     ensures taken { OnOk result ((hs : Holders) (waits : Option Lock) → IsIndexOf maps.old hs
         → client < length hs → NoOther hs client lock.now → IsIndexOf maps.new (slice_set hs client
         (record { locks = lock.now ∷ (holder_at hs client).locks; waits = waits }))) }
-    ensures refused { OnErr result ((hs : Holders) → IsIndexOf maps.old hs → IsIndexOf maps.new hs) }
+    ensures refused { OnErr result ((hs : Holders) → IsIndexOf maps.old hs
+        → IsIndexOf maps.new hs) }
 {
     match lock {
         Lock::OnKey { id, key } => {
@@ -136,7 +141,8 @@ fn drop_lock(maps: &mut BTreeMap<MapId, MapLocks>, client: u32, lock: &Lock)
 pub fn drop_all(maps: &mut BTreeMap<MapId, MapLocks>, client: u32, locks: &[Lock])
     requires { client < PLACES }
     ensures { (hs : Holders) → IsIndexOf maps.old hs → client < length hs
-        → reverse locks.now ≡ (holder_at hs client).locks → IsIndexOf maps.new (slice_set hs client nobody) }
+        → reverse locks.now ≡ (holder_at hs client).locks
+        → IsIndexOf maps.new (slice_set hs client nobody) }
 {
     for lock in locks {
         drop_lock(maps, client, lock);

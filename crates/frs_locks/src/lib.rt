@@ -2,7 +2,7 @@
 //! holders, of which each has the locks that a client holds and the one that it waits for.
 #![tactic(auto)]
 
-mod held;
+mod client_locks;
 mod index;
 mod locks;
 mod map_locks;

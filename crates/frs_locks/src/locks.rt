@@ -5,7 +5,7 @@ ghost use Rattle.frs_types.specs.Locks.{nobody, holder_at, same_lock, do_conflic
 ghost use Rattle.frs_locks.specs.Answers.{IsAnswer, IsRingless, IsRing, least_client, with_held, without};
 ghost use Rattle.frs_locks.specs.Index.{is_against};
 
-use crate::held::{Held, copy_of};
+use crate::client_locks::{ClientLocks, copy_of};
 use crate::index::drop_all;
 use crate::map_locks::{MapLocks, PLACES};
 use crate::round::{leading, leads_at};
@@ -24,18 +24,18 @@ pub const CLIENT_LIMIT: u32 = 64;
 pub struct Locks {
     alloc: Global,
     maps: BTreeMap<MapId, MapLocks>,
-    clients: Vec<Held>,
+    clients: Vec<ClientLocks>,
 }
 
 impl Model for Locks {
     ghost use Rattle.frs_types.specs.Locks.{Holders};
-    ghost use Rattle.frs_locks.specs.Index.{IsSound};
+    ghost use Rattle.frs_locks.specs.Index.{AreSoundLocks};
 
     ghost Value = { Holders };
 
     ghost view = { λ a. a.clients.items };
 
-    ghost invariant = { λ a. IsSound a.maps a.clients.items };
+    ghost invariant = { λ a. AreSoundLocks a.maps a.clients.items };
 }
 
 /// Who hinders a client at a lock.
@@ -86,7 +86,7 @@ impl Locks {
     {
         let mut held = Vec::new(alloc);
         for _ in 0..clients + 1 {
-            held.push(Held::new(alloc))?;
+            held.push(ClientLocks::new(alloc))?;
         }
         Ok(Locks {
             alloc,
@@ -187,7 +187,10 @@ impl Locks {
         ensures ringless { IsRingless self.new }
         ensures count { length self.new ≡ length self.old }
     {
-        let held = std::mem::replace(&mut self.clients[client as usize], Held::new(self.alloc));
+        let held = std::mem::replace(
+            &mut self.clients[client as usize],
+            ClientLocks::new(self.alloc),
+        );
         drop_all(&mut self.maps, client, held.locks());
     }
 
@@ -214,7 +217,8 @@ impl Locks {
     fn steps(&self, client: u32, lock: &Lock) -> Result<Vec<Sequence<u32>>, NoMemory>
         requires { client < length self.now }
         ensures { IfOk result (λ steps. steps.items
-            ≡ map (waits_for (with_wait self.now client lock.now)) (range_with_len 0 (length self.now))) }
+            ≡ map (waits_for (with_wait self.now client lock.now))
+            (range_with_len 0 (length self.now))) }
     {
         let mut steps = Vec::new(self.alloc);
         for other in 0..self.count() {
@@ -227,7 +231,8 @@ impl Locks {
     fn step_of(&self, client: u32, lock: &Lock, other: u32) -> Result<Sequence<u32>, NoMemory>
         requires client { client < length self.now }
         requires other { other < length self.now }
-        ensures { IfOk result (λ found. found ≡ waits_for (with_wait self.now client lock.now) other) }
+        ensures { IfOk result (λ found. found
+            ≡ waits_for (with_wait self.now client lock.now) other) }
     {
         if other == client {
             return self.hinderers(client, lock);

@@ -54,7 +54,7 @@ pub fn leading(alloc: Global, steps: &[Sequence<u32>], goal: u32) -> Result<Vec<
         → IfOk result (λ leading. leading.items
         ≡ map (λ d. is_reached hs (length hs) d goal) (range_with_len 0 (length hs))) }
 {
-    let mut leading = nobody(alloc, steps.len())?;
+    let mut leading = none_leading(alloc, steps.len())?;
     for _ in 0..steps.len() {
         leading = round(alloc, steps, goal, leading.as_slice())?;
     }
@@ -62,7 +62,7 @@ pub fn leading(alloc: Global, steps: &[Sequence<u32>], goal: u32) -> Result<Vec<
 }
 
 // As many answers of no.
-fn nobody(alloc: Global, count: usize) -> Result<Vec<bool>, NoMemory>
+fn none_leading(alloc: Global, count: usize) -> Result<Vec<bool>, NoMemory>
     ensures { IfOk result (λ none. none.items ≡ map (λ (d : ℕ). false) (range_with_len 0 count)) }
 {
     let mut none = Vec::new(alloc);

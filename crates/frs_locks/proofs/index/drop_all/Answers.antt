@@ -1,7 +1,7 @@
 -- Each lock is given back in turn.
-use Rattle.std.proofs.Common.{sym, ◌∙◌, ap, subst, drop, arith}
+use Rattle.std.proofs.Common.{subst}
 use Rattle.frs_locks.specs.Index.{LeavesTo}
-use Rattle.frs_locks.proofs.Indexed.{leaves_all, left_nothing, alone_at, front_of}
+use Rattle.frs_locks.proofs.IndexChanges.{leaves_all, left_nothing, alone_at, rest_begins}
 use Rattle.std.proofs.lemmas.List.{drop_all}
 use Rattle.frs_locks.proofs.index.drop_all.Goals as goal
 
@@ -10,7 +10,7 @@ loop-lock-init c = λ hs index own. leaves_all c.args.maps.now hs c.args.client 
 
 pub loop-lock-preserved : goal.loop-lock-preserved
 loop-lock-preserved c = λ hs index own. c.drop_lock.ensures hs _
-    (subst (LeavesTo c.loop-lock.maps hs c.args.client) (front_of c.args.locks.now c.loop-lock.lock-index c.lock-item.result c.loop-lock-test.true c.lock-item.is) (c.loop-lock.invariant hs index own))
+    (subst (LeavesTo c.loop-lock.maps hs c.args.client) (rest_begins c.args.locks.now c.loop-lock.lock-index c.lock-item.result c.loop-lock-test.true c.lock-item.is) (c.loop-lock.invariant hs index own))
     (alone_at c.args.maps.now hs c.args.client c.args.locks.now c.loop-lock.lock-index c.lock-item.result index own c.loop-lock-test.true c.lock-item.is)
 
 pub returns : goal.returns

@@ -1,4 +1,4 @@
-use Rattle.std.proofs.Common.{◌≡◌, ◌<◌, length, reverse, drop}
+use Rattle.std.proofs.Common.{◌≡◌, reverse, drop}
 use Rattle.frs_types.specs.Locks.{Holders, holder_at}
 use Rattle.frs_locks.specs.Index.{IsIndexOf, LeavesTo}
 use Rattle.frs_locks.proofs.index.drop_all.Given as goal

@@ -1,6 +1,6 @@
 -- One lock less.
 use Rattle.std.proofs.Common.{sym, subst}
-use Rattle.frs_locks.proofs.Indexed.{gave_key, gave_map, IsGiven}
+use Rattle.frs_locks.proofs.IndexChanges.{gave_key, gave_map, IsGiven}
 use Rattle.frs_locks.proofs.index.drop_lock.Goals as goal
 
 pub returns-in-OnKey : goal.returns-in-OnKey

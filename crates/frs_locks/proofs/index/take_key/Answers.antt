@@ -1,6 +1,6 @@
 -- One key of one map has another owner.
-use Rattle.std.proofs.Common.{rules, ◌==◌}
-use Rattle.frs_locks.proofs.IndexAnswers.{map_same, keys_after, some_key_more, each_same, on_err_of}
+use Rattle.std.proofs.Common.{◌==◌}
+use Rattle.frs_locks.proofs.IndexAnswers.{map_same, keys_after, some_key_more, each_same, if_err_all}
 use Rattle.frs_locks.proofs.index.take_key.Goals as goal
 
 pub returns-in_ok-take_key-clause-map : goal.returns-in_ok-take_key-clause-map
@@ -16,5 +16,5 @@ returns-in_ok-take_key-clause-some_key c = some_key_more c.args.maps.now (c.get_
     ((c.get_mut.follows.holds c.take_key.new.self).3 c.requires.there).0 c.args.client c.in_ok-take_key.ensures.clients
 
 pub returns-in_err-take_key-clause-refused : goal.returns-in_err-take_key-clause-refused
-returns-in_err-take_key-clause-refused c = on_err_of _ (each_same c.args.maps.now (c.get_mut.follows.lender c.take_key.new.self) c.args.id.now c.in-Some.m.now c.take_key.new.self c.in-Some.ensures.value
+returns-in_err-take_key-clause-refused c = if_err_all _ (λ e. each_same c.args.maps.now (c.get_mut.follows.lender c.take_key.new.self) c.args.id.now c.in-Some.m.now c.take_key.new.self c.in-Some.ensures.value
     ((c.get_mut.follows.holds c.take_key.new.self).3 c.requires.there).0 c.in_err-take_key.ensures.refused)

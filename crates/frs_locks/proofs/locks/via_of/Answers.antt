@@ -1,7 +1,7 @@
 -- The first of the clients that leads to the goal.
 use Rattle.std.proofs.Common.{◌∙◌, sym, ap, false, None, get_or}
 use Rattle.std.specs.Prelude.{find, if◌then◌else◌}
-use Rattle.frs_locks.proofs.Found.{find_first, find_more}
+use Rattle.frs_locks.proofs.SoundLocks.{find_first, find_more}
 use Rattle.frs_locks.proofs.locks.via_of.Goals as goal
 
 pub returns-then-leads_at : goal.returns-then-leads_at

@@ -1,5 +1,5 @@
 -- One round more.
-use Rattle.std.proofs.Common.{◌≡◌, length, ◌∙◌, ap, sym, subst, arith, false, ℕ}
+use Rattle.std.proofs.Common.{length, ◌∙◌, ap, arith, false, ℕ}
 use Rattle.std.specs.Prelude.{map}
 use Rattle.std.specs.List.{range_with_len}
 use Rattle.frs_types.specs.Locks.{is_reached}

@@ -1,7 +1,7 @@
 -- The index names those that hold a conflicting lock.
 use Rattle.std.proofs.Common.{◌∙◌, replicate, false}
 use Rattle.frs_locks.proofs.IndexAnswers.{never}
-use Rattle.frs_locks.proofs.Found.{against_key, against_map, none_key, none_map}
+use Rattle.frs_locks.proofs.SoundLocks.{against_key, against_map, none_key, none_map}
 use Rattle.frs_locks.proofs.locks.Locks.against.Goals as goal
 
 pub returns-in-Some : goal.returns-in-Some

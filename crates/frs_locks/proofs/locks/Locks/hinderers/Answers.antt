@@ -1,7 +1,7 @@
 -- One client more.
 use Rattle.std.proofs.Common.{◌∙◌, ap, not, ◌&&◌, ◌==◌}
 use Rattle.frs_types.specs.Locks.{is_hindered_by}
-use Rattle.frs_locks.proofs.Found.{filter_range_more}
+use Rattle.frs_locks.proofs.SoundLocks.{filter_range_more}
 use Rattle.frs_locks.proofs.locks.Locks.hinderers.Goals as goal
 
 pub loop-other-preserved : goal.loop-other-preserved

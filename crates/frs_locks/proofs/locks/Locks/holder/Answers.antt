@@ -1,7 +1,7 @@
 -- The first client that hinders.
 use Rattle.std.proofs.Common.{◌∙◌, ap, sym, not, ◌&&◌, ◌==◌}
 use Rattle.frs_types.specs.Locks.{is_hindered_by}
-use Rattle.frs_locks.proofs.Found.{least_at, none_more}
+use Rattle.frs_locks.proofs.SoundLocks.{least_at, none_more}
 use Rattle.frs_locks.proofs.locks.Locks.holder.Goals as goal
 
 pub returns-then-hinders : goal.returns-then-hinders

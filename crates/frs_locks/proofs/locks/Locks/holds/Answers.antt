@@ -1,6 +1,6 @@
 -- The index says whether the client holds the key.
 use Rattle.std.proofs.Common.{◌∙◌}
-use Rattle.frs_locks.proofs.Found.{holds_on_key}
+use Rattle.frs_locks.proofs.SoundLocks.{holds_on_key}
 use Rattle.frs_locks.proofs.locks.Locks.holds.Goals as goal
 
 pub returns-in-Some : goal.returns-in-Some

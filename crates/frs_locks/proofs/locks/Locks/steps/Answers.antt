@@ -1,5 +1,5 @@
 -- One client more.
-use Rattle.std.proofs.Common.{◌∙◌, sym, ap, arith, ◌++◌, ◌∷◌, []}
+use Rattle.std.proofs.Common.{◌∙◌, sym, arith, ◌++◌, ◌∷◌, []}
 use Rattle.std.proofs.lemmas.List.FromFn.{map-range_with_len_more}
 use Rattle.frs_types.specs.Locks.{waits_for, with_wait}
 use Rattle.frs_locks.proofs.locks.Locks.steps.Goals as goal

@@ -1,7 +1,7 @@
 -- The client has the lock, once.
 use Rattle.std.proofs.Common.{◌≡◌, ◌<◌, length, [], sym, subst}
 use Rattle.frs_types.specs.Locks.{hinderers}
-use Rattle.frs_locks.proofs.Found.{sound_kept, sound_same, sound_taken}
+use Rattle.frs_locks.proofs.SoundLocks.{sound_kept, sound_same, sound_taken}
 use Rattle.frs_locks.proofs.locks.Locks.take.Goals as goal
 
 pub invariant_of-self : goal.invariant_of-self

@@ -14,12 +14,12 @@ use std::marker::Model;
 /// The locks that a client holds, in the order in which it took them, and the one that it waits for. Contracts see the
 /// newest lock first.
 #[derive(Drop)]
-pub struct Held {
+pub struct ClientLocks {
     locks: Vec<Lock>,
     waits: Option<Lock>,
 }
 
-impl Model for Held {
+impl Model for ClientLocks {
     ghost use Rattle.std.specs.Prelude.{reverse};
     ghost use Rattle.frs_types.specs.Locks.{Holder};
 
@@ -28,12 +28,12 @@ impl Model for Held {
     ghost view = { λ a. record { locks = reverse a.locks.items; waits = a.waits } };
 }
 
-impl Held {
+impl ClientLocks {
     /// A client that holds nothing and waits for nothing. Takes no memory.
-    pub fn new(alloc: Global) -> Held
+    pub fn new(alloc: Global) -> ClientLocks
         ensures { result ≡ nobody }
     {
-        Held {
+        ClientLocks {
             locks: Vec::new(alloc),
             waits: None,
         }
@@ -62,12 +62,15 @@ impl Held {
         lock: &Lock,
     ) -> Result<(), NoMemory>
         requires { client < PLACES }
-        ensures taken { OnOk result (self.new ≡ record { locks = lock.now ∷ self.old.locks; waits = None }) }
+        ensures taken { OnOk result (self.new
+            ≡ record { locks = lock.now ∷ self.old.locks; waits = None }) }
         ensures refused { OnErr result (self.new ≡ self.old) }
         ensures index { OnOk result ((hs : Holders) (waits : Option Lock) → IsIndexOf maps.old hs
-            → client < length hs → NoOther hs client lock.now → IsIndexOf maps.new (slice_set hs client
+            → client < length hs → NoOther hs client lock.now
+            → IsIndexOf maps.new (slice_set hs client
             (record { locks = lock.now ∷ (holder_at hs client).locks; waits = waits }))) }
-        ensures same_index { OnErr result ((hs : Holders) → IsIndexOf maps.old hs → IsIndexOf maps.new hs) }
+        ensures same_index { OnErr result ((hs : Holders) → IsIndexOf maps.old hs
+            → IsIndexOf maps.new hs) }
     {
         let copy = copy_of(alloc, lock)?;
         self.locks.reserve(1)?;

@@ -1,26 +1,25 @@
 -- Whom the index finds, and what a client's answer leaves.
-use Rattle.std.proofs.Common.{◌≡◌, ◌≢◌, ⊎_elim, ℕ, zero, suc, ◌+◌, ◌<◌, ◌≤◌, ◌==◌, Bool, true, false, cond, not, ◌&&◌, ◌||◌, List, [], ◌∷◌, ◌++◌, length, map, set, take, get_or, replicate, Option, None, Some, refl, sym, ◌∙◌, ap, subst, arith, add-one, inl, inr}
+use Rattle.std.proofs.Common.{◌≡◌, ⊎_elim, ℕ, zero, suc, ◌+◌, ◌<◌, ◌≤◌, ◌==◌, Bool, true, false, cond, not, ◌||◌, List, [], ◌∷◌, ◌++◌, length, map, set, take, get_or, replicate, Option, None, Some, refl, sym, ◌∙◌, ap, subst, arith, add-one, inl, inr}
 use Rattle.std.specs.Prelude.{filter, find, if◌then◌else◌, slice_set}
 use Rattle.std.specs.List.{list_any, range_with_len}
-use Rattle.std.specs.Str.{bytes_eq}
 use Rattle.std.specs.BTreeMap.{BTreeMap, get}
 use Rattle.std.specs.Ordering.{nat_cmp}
 use Rattle.std.specs.Cmp.Lexicographic.{slice_cmp}
 use Rattle.std.proofs.lemmas.Bool.{and_from, or_left, or_right, cases_eq, cases_lt, false_from_ne_true}
 use Rattle.std.proofs.lemmas.Bool.Decides.{Decides-eqb}
-use Rattle.std.proofs.lemmas.List.Elements.{filter-append}
-use Rattle.std.proofs.lemmas.List.{get_or-replicate, get_or_past, length-set, length-replicate, set-get_or}
-use Rattle.std.proofs.lemmas.List.FromFn.{get_or-map-range_with_len, length-map-range_with_len}
+use Rattle.std.proofs.Math.Bool.{or-false}
+use Rattle.std.proofs.lemmas.List.{get_or-replicate, get_or_past, length-set, length-replicate, map-id, set-get_or}
+use Rattle.std.proofs.lemmas.List.FromFn.{filter_of_map_range_with_len_more, get_or-map-range_with_len, length-map-range_with_len}
 use Rattle.frs_types.specs.declared.lock.Lock.{Lock}
 use Rattle.frs_types.specs.declared.lock.Lock.TheVariants.{OnKey, OnMap}
 use Rattle.frs_types.specs.Locks.{Holder, Holders, holder_at, nobody, do_conflict, same_lock, hinderers, is_hindered_by, with_wait, ring, via, is_reached, waits_for}
 use Rattle.frs_locks.specs.declared.map_locks.MapLocks.{MapLocks}
 use Rattle.frs_locks.specs.declared.locks.TheConstants.{CLIENT_LIMIT}
 use Rattle.frs_locks.specs.Answers.{IsRing, IsRingless, least_client}
-use Rattle.frs_locks.specs.Index.{IsIndexOf, IsSound, NoOther, SaysOf, map_at, is_client, is_against, holds_map, holds_key, holds_some_key, is_on_key_of}
-use Rattle.frs_locks.proofs.Reached.{holder_same, holder_other, same_locks, stays_put, ringless_quiet, ringless_wait, filter_in, In, ring_has_via, own_step}
+use Rattle.frs_locks.specs.Index.{IsIndexOf, AreSoundLocks, NoOther, SaysOf, map_at, is_client, is_against, holds_map, holds_key, holds_some_key, is_on_key_of}
+use Rattle.frs_locks.proofs.NoRing.{holder_same, holder_other, stays_put, ringless_quiet, ringless_wait, filter_in, In, ring_has_via, own_step}
 use Rattle.frs_locks.proofs.Rounds.{found_at}
-use Rattle.frs_locks.proofs.Indexed.{IsTaken}
+use Rattle.frs_locks.proofs.IndexChanges.{IsTaken}
 use Rattle.frs_locks.proofs.IndexAnswers.{empty_map}
 
 or_four : (a b x y : Bool) → ((a || b) || (x || y)) ≡ ((a || x) || (b || y))
@@ -29,17 +28,13 @@ or_four false true true y = refl
 or_four false true false y = refl
 or_four false false x y = refl
 
-none_or : (b : Bool) → (b || false) ≡ b
-none_or true = refl
-none_or false = refl
-
 split_key : (id k : List ℕ) (l : Lock) → do_conflict (OnKey id k) l ≡ (same_lock (OnMap id) l || same_lock (OnKey id k) l)
 split_key id k (OnKey other key) = refl
-split_key id k (OnMap other) = sym (none_or _)
+split_key id k (OnMap other) = sym (or-false _)
 
 split_map : (id : List ℕ) (l : Lock) → do_conflict (OnMap id) l ≡ (same_lock (OnMap id) l || is_on_key_of id l)
 split_map id (OnKey other key) = refl
-split_map id (OnMap other) = sym (none_or _)
+split_map id (OnMap other) = sym (or-false _)
 
 pub conflict_key : (id k : List ℕ) (locks : List Lock) → list_any (do_conflict (OnKey id k)) locks ≡ (list_any (same_lock (OnMap id)) locks || list_any (same_lock (OnKey id k)) locks)
 conflict_key id k [] = refl
@@ -52,7 +47,7 @@ conflict_map id (l ∷ ls) = (λ i. split_map id l i || conflict_map id ls i) �
 pub against_key : (maps : BTreeMap (List ℕ) MapLocks) (hs now : Holders) (id k : List ℕ) (lock : Lock) (m : MapLocks) (key : Option ℕ) (clients : List Bool) (d : ℕ) → IsIndexOf maps hs → hs ≡ now → lock ≡ OnKey id k → Some m ≡ map_at maps id
     → key ≡ get (slice_cmp nat_cmp) m.keys k → get_or clients d false ≡ false → is_against m.whole key clients d ≡ list_any (do_conflict lock) (holder_at now d).locks
 against_key maps hs now id k lock m key clients d index is at there owner none =
-    (λ i. is_client m.whole d || (is_client (owner i) d || none i)) ∙ ap (λ b. is_client m.whole d || b) (none_or _)
+    (λ i. is_client m.whole d || (is_client (owner i) d || none i)) ∙ ap (λ b. is_client m.whole d || b) (or-false _)
     ∙ (λ i. holds_map (there i) d || holds_key (there i) k d)
     ∙ (λ i. (index id d).map i || (index id d).key k i) ∙ sym (conflict_key id k (holder_at hs d).locks)
     ∙ (λ i. list_any (do_conflict (sym at i)) (holder_at (is i) d).locks)
@@ -84,19 +79,16 @@ holds_on_key maps hs now id k lock o d index is at there = (λ i. holds_key (the
 
 -- ---- a walk over the clients
 
-range_from : (a n : ℕ) → range_with_len a (suc n) ≡ range_with_len a n ++ (a + n) ∷ []
-range_from a zero = ap (λ k. k ∷ []) (omega arith)
-range_from a (suc n) = ap (λ xs. a ∷ xs) (range_from (a + 1) n ∙ ap (λ k. range_with_len (a + 1) n ++ k ∷ []) (omega arith))
-
-pub range_more : (n : ℕ) → range_with_len 0 (n + 1) ≡ range_with_len 0 n ++ n ∷ []
-range_more n = ap (range_with_len 0) (add-one n) ∙ range_from 0 n ∙ ap (λ k. range_with_len 0 n ++ k ∷ []) (omega arith)
+filter_one_more : (p : ℕ → Bool) (n : ℕ) → filter p (range_with_len 0 (n + 1)) ≡ filter p (range_with_len 0 n) ++ cond (p n) (n ∷ []) []
+filter_one_more p n = ap (filter p) (sym (map-id (range_with_len 0 (n + 1)))) ∙ filter_of_map_range_with_len_more p (λ k. k) 0 n n (omega arith)
+    ∙ ap (λ xs. filter p xs ++ cond (p n) (n ∷ []) []) (map-id (range_with_len 0 n))
 
 -- one client more
 pub filter_range_more : (p : ℕ → Bool) (n : ℕ) (found more : List ℕ) (b : Bool) → found ≡ filter p (range_with_len 0 n) → b ≡ p n → more ≡ found ++ cond b (n ∷ []) [] → more ≡ filter p (range_with_len 0 (n + 1))
-filter_range_more p n found more b h s m = m ∙ (λ i. h i ++ cond (s i) (n ∷ []) []) ∙ sym (ap (filter p) (range_more n) ∙ filter-append p (range_with_len 0 n) (n ∷ []))
+filter_range_more p n found more b h s m = m ∙ (λ i. h i ++ cond (s i) (n ∷ []) []) ∙ sym (filter_one_more p n)
 
 pub none_more : (p : ℕ → Bool) (n : ℕ) → filter p (range_with_len 0 n) ≡ [] → p n ≡ false → filter p (range_with_len 0 (n + 1)) ≡ []
-none_more p n h s = ap (filter p) (range_more n) ∙ filter-append p (range_with_len 0 n) (n ∷ []) ∙ (λ i. h i ++ cond (s i) (n ∷ []) [])
+none_more p n h s = filter_one_more p n ∙ (λ i. h i ++ cond (s i) (n ∷ []) [])
 
 head_none : (b : Bool) (x : ℕ) (xs : List ℕ) → cond b (x ∷ xs) xs ≡ [] → (b ≡ false) × (xs ≡ [])
 head_none true x xs h = absurd cc
@@ -148,7 +140,7 @@ ring_answer hs c lock leading clients r lt lead is h = subst (IsRing hs c lock) 
 
 -- ---- the whole
 
-pub sound_new : (maps : BTreeMap (List ℕ) MapLocks) (n : ℕ) → maps.entries ≡ [] → 2 ≤ n → n ≤ CLIENT_LIMIT + 1 → IsSound maps (replicate n nobody)
+pub sound_new : (maps : BTreeMap (List ℕ) MapLocks) (n : ℕ) → maps.entries ≡ [] → 2 ≤ n → n ≤ CLIENT_LIMIT + 1 → AreSoundLocks maps (replicate n nobody)
 sound_new maps n empty some most = record {
   indexed = λ id d. let here = everywhere n d in let none = empty_map maps id empty in record {
     map = (λ i. holds_map (none i) d) ∙ ap (λ (h : Holder). list_any (same_lock (OnMap id)) h.locks) (sym here);
@@ -165,7 +157,7 @@ sound_new maps n empty some most = record {
     everywhere n d = ⊎_elim (λ lt. get_or-replicate n d nobody nobody lt) (λ le. get_or_past _ d nobody (subst (λ k. k ≤ d) (sym (length-replicate n nobody)) le)) (cases_lt d n)
 
 -- the holders once one of them but the first is another
-pub sound_after : (maps now : BTreeMap (List ℕ) MapLocks) (hs : Holders) (c : ℕ) (h : Holder) → IsSound maps hs → 1 ≤ c → IsIndexOf now (slice_set hs c h) → IsRingless (slice_set hs c h) → IsSound now (slice_set hs c h)
+pub sound_after : (maps now : BTreeMap (List ℕ) MapLocks) (hs : Holders) (c : ℕ) (h : Holder) → AreSoundLocks maps hs → 1 ≤ c → IsIndexOf now (slice_set hs c h) → IsRingless (slice_set hs c h) → AreSoundLocks now (slice_set hs c h)
 sound_after maps now hs c h was some index ringless = record {
   indexed = index;
   ringless = ringless;
@@ -197,10 +189,10 @@ free_of_others hs c lock none d other = false_from_ne_true _ (λ is. ⊎_elim
     more (OnKey id k) is = conflict_key id k _ ∙ or_right _ _ is
     more (OnMap id) is = conflict_map id _ ∙ or_left _ _ is
 
-pub sound_wait : (maps : BTreeMap (List ℕ) MapLocks) (hs : Holders) (c : ℕ) (lock : Lock) → IsSound maps hs → 1 ≤ c → c < length hs → ring hs c lock ≡ false → IsSound maps (with_wait hs c lock)
+pub sound_wait : (maps : BTreeMap (List ℕ) MapLocks) (hs : Holders) (c : ℕ) (lock : Lock) → AreSoundLocks maps hs → 1 ≤ c → c < length hs → ring hs c lock ≡ false → AreSoundLocks maps (with_wait hs c lock)
 sound_wait maps hs c lock was some lt closes = sound_after maps maps hs c _ was some (index_kept maps hs c _ lt refl was.indexed) (ringless_wait hs c lock was.ringless lt closes)
 
-pub sound_quiet : (maps now : BTreeMap (List ℕ) MapLocks) (hs : Holders) (c : ℕ) (h : Holder) → IsSound maps hs → 1 ≤ c → c < length hs → h.waits ≡ None → IsIndexOf now (slice_set hs c h) → IsSound now (slice_set hs c h)
+pub sound_quiet : (maps now : BTreeMap (List ℕ) MapLocks) (hs : Holders) (c : ℕ) (h : Holder) → AreSoundLocks maps hs → 1 ≤ c → c < length hs → h.waits ≡ None → IsIndexOf now (slice_set hs c h) → AreSoundLocks now (slice_set hs c h)
 sound_quiet maps now hs c h was some lt quiet index = sound_after maps now hs c h was some index (ringless_quiet hs c h was.ringless lt quiet)
 
 -- what stands at a place, whatever stands in for nothing
@@ -226,21 +218,21 @@ ring_found hs c lock steps own leading r lt s o lead h = ring_answer hs c lock l
     same : length (with_wait hs c lock) ≡ length hs
     same = length-set hs c _
 
-pub place_of : (hs : Holders) (c : ℕ) (lock : Lock) (steps : List (List ℕ)) → c < length hs → steps ≡ map (waits_for (with_wait hs c lock)) (range_with_len 0 (length hs)) → c < length steps
-place_of hs c lock steps lt s = subst (λ n. c < n) (sym (ap length s ∙ length-map-range_with_len (waits_for (with_wait hs c lock)) 0 (length hs))) lt
+pub own_steps_at : (hs : Holders) (c : ℕ) (lock : Lock) (steps : List (List ℕ)) → c < length hs → steps ≡ map (waits_for (with_wait hs c lock)) (range_with_len 0 (length hs)) → c < length steps
+own_steps_at hs c lock steps lt s = subst (λ n. c < n) (sym (ap length s ∙ length-map-range_with_len (waits_for (with_wait hs c lock)) 0 (length hs))) lt
 
 -- ---- a lock that is taken
 
-pub sound_same : (maps now : BTreeMap (List ℕ) MapLocks) (hs : Holders) (c : ℕ) (h old : Holder) → IsSound maps hs → 1 ≤ c → c < length hs → old ≡ get_or hs c old → h ≡ old → IsIndexOf now hs → IsSound now (slice_set hs c h)
-sound_same maps now hs c h old was some lt o is index = subst (IsSound now) (sym (ap (set hs c) (is ∙ same_item hs c old lt o) ∙ set-get_or hs c nobody))
+pub sound_same : (maps now : BTreeMap (List ℕ) MapLocks) (hs : Holders) (c : ℕ) (h old : Holder) → AreSoundLocks maps hs → 1 ≤ c → c < length hs → old ≡ get_or hs c old → h ≡ old → IsIndexOf now hs → AreSoundLocks now (slice_set hs c h)
+sound_same maps now hs c h old was some lt o is index = subst (AreSoundLocks now) (sym (ap (set hs c) (is ∙ same_item hs c old lt o) ∙ set-get_or hs c nobody))
     (record { indexed = index; ringless = was.ringless; some = was.some; most = was.most; compactor = was.compactor })
 
-pub sound_kept : (maps : BTreeMap (List ℕ) MapLocks) (hs : Holders) (c : ℕ) (h old : Holder) → IsSound maps hs → 1 ≤ c → c < length hs → old ≡ get_or hs c old → h ≡ record { locks = old.locks; waits = None } → IsSound maps (slice_set hs c h)
+pub sound_kept : (maps : BTreeMap (List ℕ) MapLocks) (hs : Holders) (c : ℕ) (h old : Holder) → AreSoundLocks maps hs → 1 ≤ c → c < length hs → old ≡ get_or hs c old → h ≡ record { locks = old.locks; waits = None } → AreSoundLocks maps (slice_set hs c h)
 sound_kept maps hs c h old was some lt o is = sound_quiet maps maps hs c h was some lt (ap (λ (i : Holder). i.waits) is)
     (index_kept maps hs c h lt (ap (λ (i : Holder). i.locks) (is ∙ (λ j. record { locks = (same_item hs c old lt o j).locks; waits = None }))) was.indexed)
 
-pub sound_taken : (maps now : BTreeMap (List ℕ) MapLocks) (hs : Holders) (c : ℕ) (lock : Lock) (h old : Holder) → IsSound maps hs → 1 ≤ c → c < length hs → old ≡ get_or hs c old → h ≡ record { locks = lock ∷ old.locks; waits = None }
-    → hinderers hs c lock ≡ [] → IsTaken maps now c lock → IsSound now (slice_set hs c h)
+pub sound_taken : (maps now : BTreeMap (List ℕ) MapLocks) (hs : Holders) (c : ℕ) (lock : Lock) (h old : Holder) → AreSoundLocks maps hs → 1 ≤ c → c < length hs → old ≡ get_or hs c old → h ≡ record { locks = lock ∷ old.locks; waits = None }
+    → hinderers hs c lock ≡ [] → IsTaken maps now c lock → AreSoundLocks now (slice_set hs c h)
 sound_taken maps now hs c lock h old was some lt o is free took = sound_quiet maps now hs c h was some lt (ap (λ (i : Holder). i.waits) is)
     (subst (λ (i : Holder). IsIndexOf now (slice_set hs c i)) (sym (is ∙ (λ j. record { locks = lock ∷ (same_item hs c old lt o j).locks; waits = None })))
     (took hs None was.indexed lt (free_of_others hs c lock free)))

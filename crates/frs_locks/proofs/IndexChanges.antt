@@ -1,5 +1,5 @@
 -- The index once a client has taken a lock, and once it has given locks back.
-use Rattle.std.proofs.Common.{◌≡◌, ◌≢◌, ⊎_elim, ℕ, suc, ◌+◌, ◌<◌, ◌==◌, Bool, true, false, ◌&&◌, ◌||◌, List, [], ◌∷◌, length, drop, get_or, reverse, Option, None, Some, refl, sym, ◌∙◌, ap, subst, arith, drop-cons, add-one}
+use Rattle.std.proofs.Common.{◌≡◌, ◌≢◌, ⊎_elim, ℕ, ◌+◌, ◌<◌, ◌==◌, Bool, true, false, ◌&&◌, ◌||◌, List, [], ◌∷◌, length, drop, get_or, reverse, Option, None, Some, refl, sym, ◌∙◌, ap, subst, drop-cons, add-one}
 use Rattle.std.specs.Prelude.{if◌then◌else◌, slice_set}
 use Rattle.std.specs.List.{list_any}
 use Rattle.std.specs.Str.{bytes_eq}
@@ -15,7 +15,7 @@ use Rattle.frs_types.specs.declared.lock.Lock.TheVariants.{OnKey, OnMap}
 use Rattle.frs_types.specs.Locks.{Holder, Holders, holder_at, nobody, same_lock}
 use Rattle.frs_locks.specs.declared.map_locks.MapLocks.{MapLocks}
 use Rattle.frs_locks.specs.Index.{IsIndexOf, LeavesTo, NoOther, SaysOf, SaysSame, map_at, is_client, holds_map, holds_key, holds_some_key, is_on_key_of}
-use Rattle.frs_locks.proofs.Reached.{holder_same, holder_other}
+use Rattle.frs_locks.proofs.NoRing.{holder_same, holder_other}
 
 pub says_as : (m n : Option MapLocks) (id : List ℕ) (d : ℕ) (locks : List Lock) → SaysSame m n → SaysOf m id d locks → SaysOf n id d locks
 says_as m n id d locks same says = record { map = same.map d ∙ says.map; key = λ k. same.key k d ∙ says.key k; some_key = same.some_key d ∙ says.some_key }
@@ -25,9 +25,6 @@ index_as maps now hs same index = λ id d. says_as _ _ id d _ (same id) (index i
 
 other_test : (c d : ℕ) → d ≢ c → (c == d) ≡ false
 other_test c d other = false_from_ne_true (c == d) (λ is. other (sym ((Decides-eqb c d).0 is)))
-
-same_test : (c : ℕ) → (c == c) ≡ true
-same_test c = (Decides-eqb c c).1 refl
 
 pub same_key_no_other : (hs : Holders) (c : ℕ) (id key q k : List ℕ) → NoOther hs c (OnKey id key) → (d : ℕ) → d ≢ c → (bytes_eq q id && bytes_eq k key) ≡ true → list_any (same_lock (OnKey q k)) (holder_at hs d).locks ≡ false
 same_key_no_other hs c id key q k none d other is =
@@ -71,8 +68,8 @@ pub took_key : (maps now : BTreeMap (List ℕ) MapLocks) (c : ℕ) (id key : Lis
 took_key maps now c id key m k s hs waits index lt none = each_client now hs c _ lt
     (λ q. record {
       map = m q c ∙ (index q c).map;
-      key = λ l. k q l c ∙ (λ i. if bytes_eq q id && bytes_eq l key then same_test c i else (index q c).key l i) ∙ pick_own (bytes_eq q id && bytes_eq l key) (list_any (same_lock (OnKey q l)) (holder_at hs c).locks);
-      some_key = s q c ∙ (λ i. (bytes_eq q id && same_test c i) || (index q c).some_key i) ∙ pick_all (bytes_eq q id) (list_any (is_on_key_of q) (holder_at hs c).locks);
+      key = λ l. k q l c ∙ (λ i. if bytes_eq q id && bytes_eq l key then (Decides-eqb c c).1 refl i else (index q c).key l i) ∙ pick_own (bytes_eq q id && bytes_eq l key) (list_any (same_lock (OnKey q l)) (holder_at hs c).locks);
+      some_key = s q c ∙ (λ i. (bytes_eq q id && (Decides-eqb c c).1 refl i) || (index q c).some_key i) ∙ pick_all (bytes_eq q id) (list_any (is_on_key_of q) (holder_at hs c).locks);
     })
     (λ q d other. record {
       map = m q d ∙ (index q d).map;
@@ -88,7 +85,7 @@ pub took_map : (maps now : BTreeMap (List ℕ) MapLocks) (c : ℕ) (id : List �
     → IsIndexOf now (slice_set hs c (record { locks = OnMap id ∷ (holder_at hs c).locks; waits = waits }))
 took_map maps now c id m k s hs waits index lt none = each_client now hs c _ lt
     (λ q. record {
-      map = m q c ∙ (λ i. if bytes_eq q id then same_test c i else (index q c).map i) ∙ pick_own (bytes_eq q id) (list_any (same_lock (OnMap q)) (holder_at hs c).locks);
+      map = m q c ∙ (λ i. if bytes_eq q id then (Decides-eqb c c).1 refl i else (index q c).map i) ∙ pick_own (bytes_eq q id) (list_any (same_lock (OnMap q)) (holder_at hs c).locks);
       key = λ l. k q l c ∙ (index q c).key l;
       some_key = s q c ∙ (index q c).some_key;
     })
@@ -125,7 +122,7 @@ gave_key maps now c id key m k s hs rest leaves none = record {
   };
   map = λ q is. leaves.map q (sym (m q c) ∙ is);
   key = λ q l is. left_of (bytes_eq q id && bytes_eq l key) (holds_key (map_at maps q) l c) (list_any (same_lock (OnKey q l)) rest) (sym (k q l c) ∙ is) (leaves.key q l);
-  some_key = λ q is. left_key (bytes_eq q id) (holds_some_key (map_at maps q) c) (list_any (is_on_key_of q) rest) ((λ i. if bytes_eq q id && sym (same_test c) i then false else holds_some_key (map_at maps q) c) ∙ sym (s q c) ∙ is) (leaves.some_key q);
+  some_key = λ q is. left_key (bytes_eq q id) (holds_some_key (map_at maps q) c) (list_any (is_on_key_of q) rest) ((λ i. if bytes_eq q id && sym ((Decides-eqb c c).1 refl) i then false else holds_some_key (map_at maps q) c) ∙ sym (s q c) ∙ is) (leaves.some_key q);
 }
 
 pub gave_map : (maps now : BTreeMap (List ℕ) MapLocks) (c : ℕ) (id : List ℕ)
@@ -190,8 +187,8 @@ pub alone_at : (maps : BTreeMap (List ℕ) MapLocks) (hs : Holders) (c : ℕ) (l
 alone_at maps hs c locks i lock index own lt is = held_alone maps hs c lock index
     (ap (list_any (same_lock lock)) (sym own) ∙ any_reversed (same_lock lock) locks ∙ list_any_at (same_lock lock) locks i lock lt (ap (same_lock lock) (sym is) ∙ same_self lock))
 
-pub front_of : (locks : List Lock) (i : ℕ) (lock : Lock) → i < length locks → lock ≡ get_or locks i lock → drop i locks ≡ lock ∷ drop (i + 1) locks
-front_of locks i lock lt is = drop-cons locks i lock lt ∙ (λ j. sym is j ∷ drop (sym (add-one i) j) locks)
+pub rest_begins : (locks : List Lock) (i : ℕ) (lock : Lock) → i < length locks → lock ≡ get_or locks i lock → drop i locks ≡ lock ∷ drop (i + 1) locks
+rest_begins locks i lock lt is = drop-cons locks i lock lt ∙ (λ j. sym is j ∷ drop (sym (add-one i) j) locks)
 
 -- what a client that takes a lock, or gives one back, changes in the index
 abbrev pub IsTaken : BTreeMap (List ℕ) MapLocks → BTreeMap (List ℕ) MapLocks → ℕ → Lock → Type 0
