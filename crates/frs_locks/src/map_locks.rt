@@ -3,12 +3,13 @@ ghost use Rattle.std.specs.Prelude.{◌≡◌, ◌<◌, ◌==◌, ◌||◌, ℕ,
 ghost use Rattle.std.specs.Str.{bytes_eq};
 ghost use Rattle.frs_locks.specs.Index.{SaysSame, holds_key, holds_some_key};
 
+use crate::locks::CLIENT_LIMIT;
 use frs_types::{Key, NoMemory};
 use std::alloc::Global;
 use std::collections::BTreeMap;
 
 /// One more than the most clients: client 0 has a place of its own.
-pub const PLACES: usize = 65;
+pub const PLACES: usize = CLIENT_LIMIT as usize + 1;
 
 /// Who holds the map, which clients hold keys of it, and who holds each key.
 #[derive(Drop)]
