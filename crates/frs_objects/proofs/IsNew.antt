@@ -17,6 +17,7 @@ use Rattle.frs_objects.specs.Objects.{stored_by, entry_of, entry_at, lsn_of_plac
 use Rattle.frs_objects.specs.Index.{Rows, row_at, table_by, is_blank, Agrees, demand, IsIndex, table_in, HasRoomFor}
 use Rattle.frs_objects.proofs.Shown.{by_number, stored_in, stored_under, at-shown}
 use Rattle.frs_objects.proofs.Agreement.{split, number_itself}
+use Rattle.frs_objects.proofs.Oldest.{unlisted_at}
 
 or_true : (b : Bool) → (b || true) ≡ true
 or_true true = refl
@@ -120,3 +121,20 @@ pub room_for_last : (a first : Index) (ops : List Op) (left : ℕ) (op : Op) →
 room_for_last a first ops left op some within is index same new fits =
     let here : left ≡ suc (left - 1) = omega (arith, some) in
     room_for a ops (left - 1) op (omega (arith, some, within)) is (subst (λ n. IsIndex a (puts_among (drop n ops))) here index) (subst (λ t. AreNew t (put_lsns (puts_among ops))) (sym same) new) fits
+
+-- whether an LSN has a row is whether an entry has it
+pub is_listed : (slots : Place → Option Slot) (rows : Rows) → Agrees slots rows [] → (n : ℕ) → is_some (row_at rows n) ≡ list_any (λ m. m == n) (table_lsns (table_by rows))
+is_listed slots rows a n =
+    split (list_any (λ m. m == n) (table_lsns (table_by rows))) (λ b. list_any (λ m. m == n) (table_lsns (table_by rows)) ≡ b → is_some (row_at rows n) ≡ b)
+    (λ _ listed. some_row (row_at rows n) refl listed)
+    (λ _ listed. ap is_some (row_free slots rows [] a n refl listed))
+    refl
+  where
+    some_row : (o : Option (Option Entry)) → row_at rows n ≡ o → list_any (λ m. m == n) (table_lsns (table_by rows)) ≡ true → is_some o ≡ true
+    some_row None is listed = absurd (true≢false (sym listed ∙ unlisted_at slots rows a n is))
+    some_row (Some o) is listed = refl
+
+-- what is above the greater of two numbers is above both
+pub all_above : (m n : ℕ) (ns : List ℕ) → m < n → AllByRecursion (λ k. n < k) ns → AllByRecursion (λ k. m < k) ns
+all_above m n [] l all = tt
+all_above m n (k ∷ ns) l all = (omega (arith, l, all.0), all_above m n ns l all.1)

@@ -1,8 +1,8 @@
 -- The first row is the oldest entry, and the rows are as many as the entries.
 use Rattle.std.proofs.Common.{◌≡◌, ℕ, ◌+◌, ◌<◌, ◌≤◌, min, Bool, true, false, ◌&&◌, cond, T, List, [], ◌∷◌, length, map, Option, Some, None, IsTrue, is_some, refl, sym, ap, ◌∙◌, subst, arith, nat_cmp, is_eq, is_lt, inl, inr, ◌⊎◌, ⊎_elim, true≢false, Ordering, Less, Equal, Greater}
-use Rattle.std.specs.Prelude.{◌==◌, nat_lt, if◌then◌else◌, option_map, slice_get}
+use Rattle.std.specs.Prelude.{◌==◌, ◌||◌, nat_eq, nat_lt, if◌then◌else◌, option_map, slice_get}
 use Rattle.std.specs.Ordering.{eq_by_cmp}
-use Rattle.std.specs.List.{AllByRecursion, list_any, fold}
+use Rattle.std.specs.List.{AllByRecursion, list_any, fold, IsDistinct}
 use Rattle.std.specs.List.Sorted.{IsStrictlySortedBy}
 use Rattle.std.specs.Map.{keys_of, lookup}
 use Rattle.std.specs.BTreeMap.{is_at}
@@ -10,7 +10,7 @@ use Rattle.std.specs.Cmp.{nat_cmp_total, eq_by_cmp_equiv}
 use Rattle.std.specs.FinMap.Entries.{put, find, below_all, is_sorted, length-put}
 use Rattle.std.proofs.lemmas.Map.{lookup-none}
 use Rattle.std.proofs.lemmas.Map.Entries.{none_past_head}
-use Rattle.std.proofs.lemmas.Map.Keys.{IsDistinct-from_sorted, sorted_head, sorted_tail}
+use Rattle.std.proofs.lemmas.Map.Keys.{IsDistinct-from_sorted, IsDistinct-cons, sorted_head, sorted_tail}
 use Rattle.std.proofs.lemmas.Bool.Decides.{nat_tests}
 use Rattle.frs_types.specs.declared.record.Entry.{Entry}
 use Rattle.frs_types.specs.Maps.{Place, Table, IsTable, at, place_cmp, same_place}
@@ -232,3 +232,47 @@ least_of_rows slots (row ∷ rest) a k o is = ap (λ (v : ℕ × Option Entry). 
   where
     the_row : (v w : ℕ × Option Entry) → Some v ≡ Some w → v ≡ w
     the_row v w e = cc
+
+-- ---- LSNs of a table
+
+none_listed : (n : ℕ) (t : Table StoredValue) → AllByRecursion (λ (x : Place × StoredValue). (x.1.lsn == n) ≡ false) t → list_any (λ m. m == n) (table_lsns t) ≡ false
+none_listed n [] all = refl
+none_listed n (x ∷ t) all = ap (λ b. b || list_any (λ m. m == n) (table_lsns t)) all.0 ∙ none_listed n t all.1
+
+pub unlisted_at : (slots : Place → Option Slot) (rows : Rows) → Agrees slots rows [] → (n : ℕ) → row_at rows n ≡ None → list_any (λ m. m == n) (table_lsns (table_by rows)) ≡ false
+unlisted_at slots rows a n none =
+    none_listed n (table_by rows) (each_at (λ p h. (h.lsn == n) ≡ false) (table_by rows) (from_is_true _ (IsTable-shown rows)) (λ p h there. apart p h (shows rows p h a.ordered there)))
+  where
+    apart : (p : Place) (h : StoredValue) → Shows rows p h → (h.lsn == n) ≡ false
+    apart p h s =
+        let lsn : h.lsn ≡ s.lsn = sym (ap (λ (v : StoredValue). v.lsn) s.stored) ∙ (a.owned s.lsn s.entry s.row).0 in
+        by_number h.lsn n (λ b. b ≡ false) (λ e. absurd (true≢false (ap is_some (sym s.row ∙ ap (row_at rows) (sym lsn ∙ e) ∙ none)))) (λ _. refl)
+
+own_lsns : (t : Table StoredValue) → T (is_sorted place_cmp t) → ((p q : Place) (g h : StoredValue) → at t p ≡ Some g → at t q ≡ Some h → g.lsn ≡ h.lsn → p ≡ q) → IsDistinct nat_eq (table_lsns t)
+unfolding IsDistinct
+own_lsns [] is one = tt
+own_lsns (x ∷ t) is one =
+    IsDistinct-cons nat_eq x.1.lsn (table_lsns t)
+    (all_lsns (λ m. (x.1.lsn == m) ≡ false) t (each_at (λ p h. (x.1.lsn == h.lsn) ≡ false) t (and_second _ _ is) (λ p h there. by_number x.1.lsn h.lsn (λ b. b ≡ false)
+    (λ e. absurd (true≢false (ap is_some (sym there ∙ ap (at t) (sym (one x.0 p x.1 h (at_head x x t x.0 ∙ ap (λ b. cond b (Some x.1) (at t x.0)) (place_itself x.0)) (behind p h there) e)) ∙ missed x.0 t (and_first _ _ is)))))
+    (λ _. refl))))
+    (own_lsns t (and_second _ _ is) (λ p q g h i j e. one p q g h (behind p g i) (behind q h j) e))
+  where
+    all_lsns : (P : ℕ → Type 0) (t : Table StoredValue) → AllByRecursion (λ (x : Place × StoredValue). P x.1.lsn) t → AllByRecursion P (table_lsns t)
+    all_lsns P [] all = tt
+    all_lsns P (x ∷ t) all = (all.0, all_lsns P t all.1)
+
+    behind : (p : Place) (g : StoredValue) → at t p ≡ Some g → at (x ∷ t) p ≡ Some g
+    behind p g there = at_head x x t p ∙ by_place p x.0 (λ b. cond b (Some x.1) (at t p) ≡ Some g)
+        (λ e. absurd (true≢false (ap is_some (sym there ∙ ap (at t) e ∙ missed x.0 t (and_first _ _ is))))) (λ _. there)
+
+pub lsns_distinct : (slots : Place → Option Slot) (rows : Rows) → Agrees slots rows [] → IsDistinct nat_eq (table_lsns (table_by rows))
+lsns_distinct slots rows a =
+    own_lsns (table_by rows) (from_is_true _ (IsTable-shown rows)) (λ p q g h i j e. one p q g h (shows rows p g a.ordered i) (shows rows q h a.ordered j) e)
+  where
+    one : (p q : Place) (g h : StoredValue) → Shows rows p g → Shows rows q h → g.lsn ≡ h.lsn → p ≡ q
+    one p q g h s r e =
+        let first : s.lsn ≡ g.lsn = sym (a.owned s.lsn s.entry s.row).0 ∙ ap (λ (v : StoredValue). v.lsn) s.stored in
+        let second : r.lsn ≡ h.lsn = sym (a.owned r.lsn r.entry r.row).0 ∙ ap (λ (v : StoredValue). v.lsn) r.stored in
+        let same : s.entry ≡ r.entry = the_entry s.entry r.entry (sym s.row ∙ ap (row_at rows) (first ∙ e ∙ sym second) ∙ r.row) in
+        sym s.place ∙ ap (λ (v : Entry). (v.id, v.key)) same ∙ r.place

@@ -1,17 +1,17 @@
 //! The index: entries by LSN, and at each place the LSN of its entry.
-ghost use Rattle.std.specs.Prelude.{◌≡◌, ◌==◌, ◌+◌, ◌<◌, ◌^◌, ℕ, List, [], ◌∷◌, cond, not, None, Some, true, false, IsSome, MatchResult, OnOk, OnErr, option_copied, length, map, ⊤};
-ghost use Rattle.std.specs.List.{list_any};
+ghost use Rattle.std.specs.Prelude.{◌≡◌, nat_eq, ◌==◌, ◌+◌, ◌<◌, ◌^◌, ℕ, List, [], ◌∷◌, cond, not, None, Some, true, false, IsSome, MatchResult, OnOk, OnErr, option_copied, length, map, ⊤};
+ghost use Rattle.std.specs.List.{list_any, IsDistinct};
 ghost use Rattle.std.specs.List.Sorted.{IsStrictlySortedBy};
 ghost use Rattle.std.specs.Map.{keys_of};
 ghost use Rattle.std.specs.Ordering.{nat_cmp};
 ghost use Rattle.std.specs.Cmp.Lexicographic.{slice_cmp};
 ghost use Rattle.std.specs.Str.{bytes_eq};
 ghost use Rattle.std.specs.FinMap.Entries.{put, where_key};
-ghost use Rattle.frs_types.specs.Maps.{Place, place_cmp, same_place, at, table_after, table_after_all};
+ghost use Rattle.frs_types.specs.Maps.{Place, IsTable, place_cmp, same_place, at, table_after, table_after_all};
 ghost use Rattle.frs_types.specs.Lawful.{StoredValue};
 ghost use Rattle.frs_objects.specs.Slots.{slot_at};
 ghost use Rattle.frs_objects.specs.declared.places.Slot.{Slot as Held};
-ghost use Rattle.frs_objects.specs.Objects.{stored_by, entry_at, oldest_entry, least_lsn, lsn_of_place, with_lsn, with_put, puts_among, put_lsns, change_by, AreNew};
+ghost use Rattle.frs_objects.specs.Objects.{stored_by, entry_at, oldest_entry, least_lsn, table_lsns, lsn_of_place, with_lsn, with_put, puts_among, put_lsns, change_by, AreNew};
 ghost use Rattle.frs_objects.specs.Index.{row_at, entry_under, HasRoomFor, is_blank, is_lsn, wanted_in, IsIndex, KeepsFor, table_in};
 
 use crate::op::Op;
@@ -76,9 +76,18 @@ impl Index {
         }
     }
 
+    /// Whether an entry has this LSN. Takes no memory.
+    pub fn has_lsn(&self, lsn: u64) -> bool
+        ensures { IsIndex self.now [] → result ≡ list_any (λ m. m == lsn) (table_lsns (table_in self.now)) }
+    {
+        self.entries.contains_key(&lsn)
+    }
+
     /// The number of entries. Takes no memory.
     pub fn live(&self) -> u64
-        ensures { IsIndex self.now [] → result ≡ length (table_in self.now) }
+        ensures live { IsIndex self.now [] → result ≡ length (table_in self.now) }
+        ensures places { IsTable (table_in self.now) }
+        ensures lsns { IsIndex self.now [] → IsDistinct nat_eq (table_lsns (table_in self.now)) }
     {
         self.entries.len() as u64
     }

@@ -11,3 +11,6 @@ mod places;
 pub use fault::MoveFault;
 pub use objects::Objects;
 pub use op::Op;
+
+#[cfg(test)]
+mod tests;

@@ -1,9 +1,10 @@
 //! The committed maps.
-ghost use Rattle.std.specs.Prelude.{◌≡◌, ◌≢◌, ◌<◌, [], ◌∷◌, map, length, option_copied, Err, OnOk, OnErr, IfOk, MatchResult};
-ghost use Rattle.frs_types.specs.Maps.{table_after_all};
+ghost use Rattle.std.specs.Prelude.{◌≡◌, ◌≢◌, nat_eq, ◌==◌, ◌<◌, [], ◌∷◌, map, length, option_copied, Err, OnOk, OnErr, IfOk, MatchResult};
+ghost use Rattle.frs_types.specs.Maps.{IsTable, table_after_all};
+ghost use Rattle.std.specs.List.{list_any, IsDistinct};
 ghost use Rattle.frs_types.specs.Lawful.{table_of};
 ghost use Rattle.frs_objects.specs.declared.fault.MoveFault.TheVariants.{Changed, Memory};
-ghost use Rattle.frs_objects.specs.Objects.{entry_at, oldest_entry, least_lsn, puts_among, put_lsns, change_by, AreNew, HaveOwnNumbers, lsn_of_place, with_lsn};
+ghost use Rattle.frs_objects.specs.Objects.{entry_at, oldest_entry, least_lsn, puts_among, put_lsns, change_by, AreNew, HaveOwnNumbers, table_lsns, lsn_of_place, with_lsn};
 
 use crate::fault::MoveFault;
 use crate::index::Index;
@@ -67,9 +68,18 @@ impl Objects {
         self.index.lowest()
     }
 
-    /// The number of entries. Takes no memory.
+    /// Whether an entry has this LSN. Takes no memory.
+    pub fn has_lsn(&self, lsn: u64) -> bool
+        ensures { result ≡ list_any (λ m. m == lsn) (table_lsns self.now) }
+    {
+        self.index.has_lsn(lsn)
+    }
+
+    /// The number of entries, of which no two have one place or one LSN. Takes no memory.
     pub fn live(&self) -> u64
-        ensures { result ≡ length self.now }
+        ensures live { result ≡ length self.now }
+        ensures places { IsTable self.now }
+        ensures lsns { IsDistinct nat_eq (table_lsns self.now) }
     {
         self.index.live()
     }
