@@ -1,5 +1,5 @@
 -- What keeps slots and rows in agreement, and what the rows show then.
-use Rattle.std.proofs.Common.{◌≡◌, ℕ, ◌+◌, ◌-◌, ◌<◌, ◌≤◌, Bool, true, false, not, ◌&&◌, ◌||◌, cond, List, [], ◌∷◌, Option, Some, None, is_some, refl, sym, ap, ◌∙◌, subst, arith, nat_cmp, true≢false}
+use Rattle.std.proofs.Common.{◌≡◌, ℕ, ◌+◌, ◌-◌, ◌≤◌, Bool, true, false, not, ◌||◌, cond, List, ◌∷◌, Option, Some, None, is_some, refl, sym, ap, ◌∙◌, subst, arith, nat_cmp, true≢false}
 use Rattle.std.specs.Prelude.{◌==◌, nat_lt, if◌then◌else◌, option_map}
 use Rattle.std.specs.Cmp.{unsigned_Decides}
 use Rattle.std.specs.List.Sorted.{IsStrictlySortedBy}
@@ -8,12 +8,12 @@ use Rattle.std.specs.Map.{keys_of}
 use Rattle.std.specs.FinMap.Entries.{put, where_key}
 use Rattle.std.proofs.lemmas.Bool.Decides.{nat_tests}
 use Rattle.frs_types.specs.declared.record.Entry.{Entry}
-use Rattle.frs_types.specs.Maps.{Place, Table, IsTable, at, place_cmp, same_place}
+use Rattle.frs_types.specs.Maps.{Place, at, place_cmp, same_place}
 use Rattle.frs_types.specs.Lawful.{StoredValue}
 use Rattle.frs_objects.specs.declared.places.Slot.{Slot}
 use Rattle.frs_objects.specs.Slots.{kept_by, settled, emptied}
 use Rattle.frs_objects.specs.Objects.{stored_by, entry_of, entry_at}
-use Rattle.frs_objects.specs.Index.{Rows, row_at, entry_in, entry_under, table_by, lsn_in, wanted_in, is_blank, demand, HaveOwnLsns, Agrees, is_lsn, wanted_more}
+use Rattle.frs_objects.specs.Index.{Rows, row_at, entry_in, entry_under, table_by, lsn_in, wanted_in, is_blank, demand, Agrees, is_lsn, wanted_more}
 use Rattle.frs_objects.proofs.SlotAt.{settled_some}
 use Rattle.frs_objects.proofs.Tables.{IsTable-put, IsTable-where, at-put, at-where, same_tables, by_place, place_itself}
 use Rattle.frs_objects.proofs.Shown.{by_number, IsTable-shown, stored_in, stored_under, at-shown}
@@ -67,9 +67,6 @@ settled_more o = settled_some (wanted_more o) (λ _ z. omega arith)
 
 the_settled : (s t : Slot) → settled s ≡ Some s → Some s ≡ Some t → settled t ≡ Some t
 the_settled s t is e = subst (λ (v : Slot). settled v ≡ Some v) (the_slot s t e) is
-
-pub number_itself : (n : ℕ) → (n == n) ≡ true
-number_itself n = (unsigned_Decides n n).1 refl
 
 -- ---- what is shown, once slots and rows agree
 
@@ -125,7 +122,7 @@ module _ (S S' : Place → Option Slot) (rows rows' : Rows) (p : Place) (l w : �
   released_lsns q = ap lsn_in (slots q) ∙ by_place p q (λ b. lsn_in (cond b (settled (record { lsn = lsn_in (S p); wanted = w })) (S q)) ≡ lsn_in (S q)) (λ e. lsn_settled (record { lsn = lsn_in (S p); wanted = w }) ∙ ap (λ v. lsn_in (S v)) e) (λ _. refl)
 
   was_blank : is_blank (row_at rows l) ≡ true
-  was_blank = a.blank l ∙ ap (λ b. b || list_any (λ (x : Place × ℕ). x.1 == l) ws) (number_itself l)
+  was_blank = a.blank l ∙ ap (λ b. b || list_any (λ (x : Place × ℕ). x.1 == l) ws) ((unsigned_Decides l l).1 refl)
 
   released_same : (n : ℕ) (e : Entry) → row_at rows' n ≡ Some (Some e) → row_at rows n ≡ Some (Some e)
   released_same n e is = by_number l n (λ b. cond b None (row_at rows n) ≡ Some (Some e) → row_at rows n ≡ Some (Some e)) (λ _ h. absurd (true≢false (ap is_some (sym h)))) (λ _ h. h) (sym (written n) ∙ is)
@@ -182,7 +179,7 @@ module _ (S S' : Place → Option Slot) (rows rows' : Rows) (x : Entry) (w : ℕ
     (slots : (q : Place) → S' q ≡ cond (same_place (x.id, x.key) q) (Some (record { lsn = Some x.lsn; wanted = w })) (S q))
     (written : (n : ℕ) → row_at rows' n ≡ cond (x.lsn == n) (Some (Some x)) (cond (is_lsn (lsn_in (S (x.id, x.key))) n) None (row_at rows n))) where
   kept_blank : is_blank (row_at rows x.lsn) ≡ true
-  kept_blank = a.blank x.lsn ∙ ap (λ b. b || list_any (λ (y : Place × ℕ). y.1 == x.lsn) ws) (number_itself x.lsn)
+  kept_blank = a.blank x.lsn ∙ ap (λ b. b || list_any (λ (y : Place × ℕ). y.1 == x.lsn) ws) ((unsigned_Decides x.lsn x.lsn).1 refl)
 
   filled_elsewhere : (q : Place) (n : ℕ) → same_place (x.id, x.key) q ≡ false → lsn_in (S q) ≡ Some n → row_at rows' n ≡ row_at rows n
   filled_elsewhere q n apart is =
@@ -200,7 +197,7 @@ module _ (S S' : Place → Option Slot) (rows rows' : Rows) (x : Entry) (w : ℕ
   filled_apart q e = slots q ∙ ap (λ b. cond b (Some (record { lsn = Some x.lsn; wanted = w })) (S q)) e
 
   filled_row : row_at rows' x.lsn ≡ Some (Some x)
-  filled_row = written x.lsn ∙ ap (λ b. cond b (Some (Some x)) (cond (is_lsn (lsn_in (S (x.id, x.key))) x.lsn) None (row_at rows x.lsn))) (number_itself x.lsn)
+  filled_row = written x.lsn ∙ ap (λ b. cond b (Some (Some x)) (cond (is_lsn (lsn_in (S (x.id, x.key))) x.lsn) None (row_at rows x.lsn))) ((unsigned_Decides x.lsn x.lsn).1 refl)
 
   filled_owned : (n : ℕ) (e : Entry) → row_at rows' n ≡ Some (Some e) → (e.lsn ≡ n) × (lsn_in (S' (e.id, e.key)) ≡ Some n)
   filled_owned n e is =
@@ -211,7 +208,7 @@ module _ (S S' : Place → Option Slot) (rows rows' : Rows) (x : Entry) (w : ℕ
       (λ _ other g. let o = a.owned n e g in (
         o.0,
         ap lsn_in (slots (e.id, e.key)) ∙ by_place (x.id, x.key) (e.id, e.key) (λ b. lsn_in (cond b (Some (record { lsn = Some x.lsn; wanted = w })) (S (e.id, e.key))) ≡ Some n)
-            (λ here. absurd (true≢false (sym (ap (λ v. is_lsn v n) (ap (λ v. lsn_in (S v)) here ∙ o.1) ∙ number_itself n) ∙ other)))
+            (λ here. absurd (true≢false (sym (ap (λ v. is_lsn v n) (ap (λ v. lsn_in (S v)) here ∙ o.1) ∙ (unsigned_Decides n n).1 refl) ∙ other)))
             (λ _. o.1),
       ))
       refl h)
@@ -357,7 +354,7 @@ module _ (S : Place → Option Slot) (rows : Rows) (p : Place) (l : ℕ) (ws : L
   not_missing e = let w : 0 ≡ demand ws p + 1 = ap wanted_in e ∙ wanted_once in omega arith
 
   pub kept_row : is_blank (row_at rows l) ≡ true
-  kept_row = a.blank l ∙ ap (λ b. b || list_any (λ (x : Place × ℕ). x.1 == l) ws) (number_itself l)
+  kept_row = a.blank l ∙ ap (λ b. b || list_any (λ (x : Place × ℕ). x.1 == l) ws) ((unsigned_Decides l l).1 refl)
 
 -- an LSN that is kept is no entry's
 pub blank_apart : (S : Place → Option Slot) (rows : Rows) (ws : List (Place × ℕ)) → Agrees S rows ws → (p : Place) (n : ℕ) → is_blank (row_at rows n) ≡ true → is_lsn (lsn_in (S p)) n ≡ false
@@ -367,7 +364,7 @@ blank_apart S rows ws a p n is = split (is_lsn (lsn_in (S p)) n) (λ b. b ≡ fa
 pub lsn_apart : (S : Place → Option Slot) (rows : Rows) (ws : List (Place × ℕ)) → Agrees S rows ws → (p q : Place) (n : ℕ) → lsn_in (S q) ≡ Some n → is_lsn (lsn_in (S p)) n ≡ same_place p q
 lsn_apart S rows ws a p q n is =
     by_place p q (λ b. is_lsn (lsn_in (S p)) n ≡ b)
-    (λ e. ap (λ v. is_lsn v n) (ap (λ v. lsn_in (S v)) e ∙ is) ∙ number_itself n)
+    (λ e. ap (λ v. is_lsn v n) (ap (λ v. lsn_in (S v)) e ∙ is) ∙ (unsigned_Decides n n).1 refl)
     (λ apart. split (is_lsn (lsn_in (S p)) n) (λ b. b ≡ false) (λ h. absurd (true≢false (sym (place_itself q) ∙ ap (λ v. same_place v q) (sym (one_place_by S rows ws p q n a (lsn_from _ n h) is)) ∙ apart))) (λ _. refl))
 
 -- ---- the entry at a place
@@ -415,7 +412,7 @@ module _ (S : Place → Option Slot) (rows : Rows) (ws : List (Place × ℕ)) (a
   entry_there None h is under shown = true≢false (ap is_some (sym shown ∙ at-shown a p ∙ ap (stored_under rows) is))
   entry_there (Some n) h is under shown = let f = a.found p n is in true≢false (ap is_some (sym (ap entry_in f.1) ∙ under))
 
-the_stored : (g h : StoredValue) → Some g ≡ Some h → g ≡ h
+pub the_stored : (g h : StoredValue) → Some g ≡ Some h → g ≡ h
 the_stored g h e = cc
 
 -- ---- an entry under another LSN

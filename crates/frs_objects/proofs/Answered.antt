@@ -1,5 +1,5 @@
 -- What an answer of a call, and an update of the entries by LSN, say.
-use Rattle.std.proofs.Common.{◌≡◌, ℕ, true, false, cond, Option, Some, None, Result, Ok, Err, OnOk, OnErr, is_err, refl, sym, ap, ◌∙◌, nat_cmp, true≢false, BTreeMap}
+use Rattle.std.proofs.Common.{◌≡◌, ℕ, true, false, cond, Option, None, Result, Ok, Err, OnOk, OnErr, is_err, sym, ap, ◌∙◌, nat_cmp, true≢false, BTreeMap}
 use Rattle.std.specs.Prelude.{◌==◌}
 use Rattle.std.specs.BTreeMap.{UpdatesBy}
 use Rattle.frs_types.specs.declared.record.Entry.{Entry}

@@ -1,10 +1,12 @@
 -- An LSN that is no entry's and isn't kept stands under no row.
-use Rattle.std.proofs.Common.{◌≡◌, ℕ, zero, suc, ◌+◌, ◌-◌, ◌^◌, ◌<◌, ◌≤◌, length, drop, Bool, true, false, ◌||◌, cond, List, [], ◌∷◌, map, Option, Some, None, is_some, refl, sym, ap, ◌∙◌, subst, arith, true≢false}
+use Rattle.std.proofs.Common.{◌≡◌, ℕ, zero, suc, ◌+◌, ◌-◌, ◌^◌, ◌<◌, ◌≤◌, length, drop, true, false, ◌||◌, cond, List, [], ◌∷◌, Option, Some, None, is_some, refl, sym, ap, ◌∙◌, subst, arith, true≢false}
 use Rattle.std.specs.Prelude.{◌==◌, if◌then◌else◌, unwrap_or, option_map, slice_index_or}
 use Rattle.std.proofs.Math.Seq.{drop-cons}
 use Rattle.std.proofs.lemmas.List.{length-drop}
 use Rattle.std.specs.Ordering.{eq_by_cmp}
 use Rattle.std.specs.List.{list_any, AllByRecursion}
+use Rattle.std.specs.Cmp.{unsigned_Decides}
+use Rattle.std.proofs.lemmas.Bool.{or_right}
 use Rattle.frs_types.specs.declared.record.Entry.{Entry}
 use Rattle.frs_types.specs.Maps.{Place, Table, at, place_cmp, same_place}
 use Rattle.frs_types.specs.Lawful.{StoredValue}
@@ -16,20 +18,16 @@ use Rattle.frs_objects.specs.declared.op.Op.TheVariants.{Put, Remove, Delete}
 use Rattle.frs_objects.specs.Objects.{stored_by, entry_of, entry_at, lsn_of_place, table_lsns, put_lsns, with_put, puts_among, AreNew, HaveOwnNumbers}
 use Rattle.frs_objects.specs.Index.{Rows, row_at, table_by, is_blank, Agrees, demand, IsIndex, table_in, HasRoomFor}
 use Rattle.frs_objects.proofs.Shown.{by_number, stored_in, stored_under, at-shown}
-use Rattle.frs_objects.proofs.Agreement.{split, number_itself}
+use Rattle.frs_objects.proofs.Agreement.{split}
 use Rattle.frs_objects.proofs.Oldest.{unlisted_at}
-
-or_true : (b : Bool) → (b || true) ≡ true
-or_true true = refl
-or_true false = refl
 
 -- the LSN of what stands at a place is listed
 lsn_listed : (t : Table StoredValue) (p : Place) (h : StoredValue) → at t p ≡ Some h → list_any (λ m. m == h.lsn) (table_lsns t) ≡ true
 lsn_listed [] p h is = absurd (true≢false (ap is_some (sym is)))
 lsn_listed (x ∷ t) p h is =
     split (eq_by_cmp place_cmp p x.0) (λ b. cond b (Some x.1) (at t p) ≡ Some h → list_any (λ m. m == h.lsn) (table_lsns (x ∷ t)) ≡ true)
-    (λ _ here. ap (λ b. b || list_any (λ m. m == h.lsn) (table_lsns t)) (ap (λ (v : StoredValue). v.lsn == h.lsn) (the_same x.1 h here) ∙ number_itself h.lsn))
-    (λ _ there. ap (λ b. (x.1.lsn == h.lsn) || b) (lsn_listed t p h there) ∙ or_true (x.1.lsn == h.lsn))
+    (λ _ here. ap (λ b. b || list_any (λ m. m == h.lsn) (table_lsns t)) (ap (λ (v : StoredValue). v.lsn == h.lsn) (the_same x.1 h here) ∙ (unsigned_Decides h.lsn h.lsn).1 refl))
+    (λ _ there. or_right (x.1.lsn == h.lsn) _ (lsn_listed t p h there))
     is
   where
     the_same : (g h : StoredValue) → Some g ≡ Some h → g ≡ h
@@ -56,7 +54,7 @@ pub new_behind : (rows rows' : Rows) (e : Entry) (es : List Entry) → HaveOwnNu
 new_behind rows rows' e es own new others n there =
     others n
     (by_number e.lsn n (λ b. b ≡ false) (λ same. absurd (true≢false (sym there ∙ ap (λ v. list_any (λ (d : Entry). d.lsn == v) es) (sym same) ∙ own.0))) (λ _. refl))
-    (new n (ap (λ b. (e.lsn == n) || b) there ∙ or_true (e.lsn == n)))
+    (new n (or_right (e.lsn == n) _ there))
 
 -- ---- the LSN at a place
 

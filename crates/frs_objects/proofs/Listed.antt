@@ -5,7 +5,7 @@ use Rattle.std.specs.List.{list_any, IsDistinct}
 use Rattle.std.specs.List.Sorted.{IsStrictlySortedBy}
 use Rattle.std.specs.Map.{lookup, keys_of}
 use Rattle.std.specs.BTreeMap.{is_at}
-use Rattle.std.specs.Cmp.{eq_by_cmp_equiv}
+use Rattle.std.specs.Cmp.{eq_by_cmp_equiv, unsigned_Decides}
 use Rattle.std.specs.Cmp.Lexicographic.{slice_cmp, nat_list_cmp_total}
 use Rattle.std.specs.Str.{bytes_eq}
 use Rattle.std.proofs.lemmas.Map.{lookup-none}
@@ -16,7 +16,7 @@ use Rattle.frs_objects.specs.declared.places.Slot.{Slot}
 use Rattle.frs_objects.specs.Slots.{slot_in, slot_at, emptied}
 use Rattle.frs_objects.specs.Index.{Rows, row_at, lsn_in, is_lsn, is_blank, Agrees}
 use Rattle.frs_objects.proofs.SlotAt.{by_bytes, at_bytes, by_equal}
-use Rattle.frs_objects.proofs.Agreement.{split, lsn_from, one_place_by, number_itself}
+use Rattle.frs_objects.proofs.Agreement.{split, lsn_from, one_place_by}
 
 -- what a look-up finds is in the list
 any_from : {K X : Type 0} (test : K → Bool) (f : X → Bool) (es : List (K × X)) (v : X) → lookup test es ≡ Some v → f v ≡ true → list_any (λ (e : K × X). f e.1) es ≡ true
@@ -69,7 +69,7 @@ module _ (maps : BTreeMap (List ℕ) (BTreeMap (List ℕ) Slot)) (rows : Rows) (
   slot_listed : (q : Place) (n : ℕ) → id ≡ q.0 → lsn_in (slot_at maps q) ≡ Some n → (o : Option Slot) → slot_at maps q ≡ o → lists n ≡ true
   slot_listed q n same under None e = absurd (true≢false (ap is_some (sym (sym (ap lsn_in e) ∙ under))))
   slot_listed q n same under (Some s) e =
-      any_from (is_at (slice_cmp nat_cmp q.1)) (λ (v : Slot). is_lsn v.lsn n) map.entries s (ap (λ v. slot_in v q.1) (is ∙ ap (by_bytes maps) same) ∙ e) (ap (λ v. is_lsn v n) (sym (ap lsn_in e) ∙ under) ∙ number_itself n)
+      any_from (is_at (slice_cmp nat_cmp q.1)) (λ (v : Slot). is_lsn v.lsn n) map.entries s (ap (λ v. slot_in v q.1) (is ∙ ap (by_bytes maps) same) ∙ e) (ap (λ v. is_lsn v n) (sym (ap lsn_in e) ∙ under) ∙ (unsigned_Decides n n).1 refl)
 
   pub listed_goes : (q : Place) (n : ℕ) → lsn_in (slot_at maps q) ≡ Some n → lists n ≡ bytes_eq id q.0
   listed_goes q n under =

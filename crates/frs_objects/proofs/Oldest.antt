@@ -1,28 +1,24 @@
 -- The first row is the oldest entry, and the rows are as many as the entries.
-use Rattle.std.proofs.Common.{◌≡◌, ℕ, ◌+◌, ◌<◌, ◌≤◌, min, Bool, true, false, ◌&&◌, cond, T, List, [], ◌∷◌, length, map, Option, Some, None, IsTrue, is_some, refl, sym, ap, ◌∙◌, subst, arith, nat_cmp, is_eq, is_lt, inl, inr, ◌⊎◌, ⊎_elim, true≢false, Ordering, Less, Equal, Greater}
+use Rattle.std.proofs.Common.{◌≡◌, ℕ, ◌+◌, ◌<◌, ◌≤◌, min, true, false, cond, T, List, [], ◌∷◌, length, Option, Some, None, is_some, refl, sym, ap, ◌∙◌, subst, arith, nat_cmp, is_eq, is_lt, inl, inr, ◌⊎◌, ⊎_elim, true≢false, Ordering, Less, Equal, Greater}
 use Rattle.std.specs.Prelude.{◌==◌, ◌||◌, nat_eq, nat_lt, if◌then◌else◌, option_map, slice_get}
-use Rattle.std.specs.Ordering.{eq_by_cmp}
-use Rattle.std.specs.List.{AllByRecursion, list_any, fold, IsDistinct}
+use Rattle.std.specs.List.{AllByRecursion, list_any, IsDistinct}
 use Rattle.std.specs.List.Sorted.{IsStrictlySortedBy}
-use Rattle.std.specs.Map.{keys_of, lookup}
-use Rattle.std.specs.BTreeMap.{is_at}
-use Rattle.std.specs.Cmp.{nat_cmp_total, eq_by_cmp_equiv}
-use Rattle.std.specs.FinMap.Entries.{put, find, below_all, is_sorted, length-put}
-use Rattle.std.proofs.lemmas.Map.{lookup-none}
-use Rattle.std.proofs.lemmas.Map.Entries.{none_past_head}
-use Rattle.std.proofs.lemmas.Map.Keys.{IsDistinct-from_sorted, IsDistinct-cons, sorted_head, sorted_tail}
+use Rattle.std.specs.Map.{keys_of}
+use Rattle.std.specs.Cmp.{unsigned_Decides}
+use Rattle.std.specs.FinMap.Entries.{below_all, is_sorted, length-put}
+use Rattle.std.proofs.lemmas.Map.Keys.{IsDistinct-cons, sorted_head, sorted_tail}
 use Rattle.std.proofs.lemmas.Bool.Decides.{nat_tests}
 use Rattle.frs_types.specs.declared.record.Entry.{Entry}
-use Rattle.frs_types.specs.Maps.{Place, Table, IsTable, at, place_cmp, same_place}
+use Rattle.frs_types.specs.Maps.{Place, Table, at, place_cmp, same_place}
 use Rattle.frs_types.specs.Lawful.{StoredValue}
 use Rattle.frs_types.specs.Survivors.{least}
-use Rattle.frs_types.proofs.Truth.{from_is_true, and_first, and_second, is_true, less_by_cmp}
+use Rattle.frs_types.proofs.Truth.{from_is_true, and_first, and_second, less_by_cmp}
 use Rattle.frs_objects.specs.declared.places.Slot.{Slot}
 use Rattle.frs_objects.specs.Objects.{stored_by, entry_of, table_lsns, least_lsn, older_of, oldest_entry}
 use Rattle.frs_objects.specs.Index.{Rows, row_at, with_row, table_by, lsn_in, is_blank, Agrees}
-use Rattle.frs_objects.proofs.Tables.{total, one_place, tied_place, by_place, place_itself}
+use Rattle.frs_objects.proofs.Tables.{total, tied_place, by_place, place_itself}
 use Rattle.frs_objects.proofs.Shown.{by_number, row_head, row_behind, IsTable-shown, Shows, shows, stored_in, stored_under, at-shown}
-use Rattle.frs_objects.proofs.Agreement.{split, the_entry, number_itself}
+use Rattle.frs_objects.proofs.Agreement.{split, the_entry, the_stored}
 
 -- ---- what holds at each place of a table holds of each of its entries
 
@@ -74,9 +70,6 @@ at_most_later p h (y ∷ t) all = (⊎_elim (λ e. omega (arith, ap (λ (v : Pla
 not_lower : (m n : ℕ) → m ≤ n → nat_lt n m ≡ false
 not_lower m n l = grind (arith, nat_tests)
 
-the_stored : (g h : StoredValue) → Some g ≡ Some h → g ≡ h
-the_stored g h e = cc
-
 pub oldest_from : (p : Place) (h : StoredValue) (t : Table StoredValue) → AllByRecursion (Later p h) t → at t p ≡ Some h → oldest_entry t ≡ Some (entry_of p h)
 oldest_from p h [] all is = absurd (true≢false (ap is_some (sym is)))
 oldest_from p h (y ∷ t) all is =
@@ -100,28 +93,23 @@ oldest_from p h (y ∷ t) all is =
 
 -- ---- the least LSN is the oldest entry's
 
-lower_by : ℕ → Option ℕ → ℕ
-lower_by n None = n
-lower_by n (Some m) = min n m
-
-lower_twice : (n m : ℕ) (o : Option ℕ) → lower_by (min n m) o ≡ min n (lower_by m o)
-unfolding lower_by
-lower_twice n m None = refl
-lower_twice n m (Some k) = omega arith
-
-least_lower : (t : Table StoredValue) (n : ℕ) → least n (table_lsns t) ≡ lower_by n (least_lsn t)
-unfolding lower_by
-least_lower [] n = refl
-least_lower (y ∷ t) n = least_lower t (min n y.1.lsn) ∙ lower_twice n y.1.lsn (least_lsn t) ∙ ap (min n) (sym (least_lower t y.1.lsn))
+least_min : (n m : ℕ) (ns : List ℕ) → least (min n m) ns ≡ min n (least m ns)
+least_min n m [] = refl
+least_min n m (k ∷ ns) = ap (λ (j : ℕ). least j ns) nested ∙ least_min n (min m k) ns
+  where
+    nested : min (min n m) k ≡ min n (min m k)
+    nested = omega arith
 
 pub least_oldest : (t : Table StoredValue) → least_lsn t ≡ option_map (λ (e : Entry). e.lsn) (oldest_entry t)
-unfolding lower_by
 least_oldest [] = refl
-least_oldest (y ∷ t) = ap Some (least_lower t y.1.lsn ∙ ap (lower_by y.1.lsn) (least_oldest t) ∙ both (oldest_entry t))
+least_oldest (y ∷ []) = refl
+least_oldest (y ∷ z ∷ t) = ap Some (least_min y.1.lsn z.1.lsn (table_lsns t) ∙ lower (oldest_entry (z ∷ t)) (least_oldest (z ∷ t)))
   where
-    both : (o : Option Entry) → lower_by y.1.lsn (option_map (λ (e : Entry). e.lsn) o) ≡ (older_of (entry_of y.0 y.1) o).lsn
-    both None = refl
-    both (Some o) = split (nat_lt o.lsn y.1.lsn) (λ b. nat_lt o.lsn y.1.lsn ≡ b → min y.1.lsn o.lsn ≡ (if b then o else entry_of y.0 y.1).lsn) (λ _ h. grind (arith, nat_tests)) (λ _ h. grind (arith, nat_tests)) refl
+    lower : (o : Option Entry) → Some (least z.1.lsn (table_lsns t)) ≡ option_map (λ (e : Entry). e.lsn) o → min y.1.lsn (least z.1.lsn (table_lsns t)) ≡ (older_of (entry_of y.0 y.1) o).lsn
+    lower None e = absurd (true≢false (ap is_some e))
+    lower (Some o) e =
+        let own : least z.1.lsn (table_lsns t) ≡ o.lsn = cc in
+        ap (min y.1.lsn) own ∙ split (nat_lt o.lsn y.1.lsn) (λ b. nat_lt o.lsn y.1.lsn ≡ b → min y.1.lsn o.lsn ≡ (if b then o else entry_of y.0 y.1).lsn) (λ _ h. grind (arith, nat_tests)) (λ _ h. grind (arith, nat_tests)) refl
 
 -- ---- rows without a blank
 
@@ -139,7 +127,7 @@ row_later row rows n o sorted is = less_by_cmp row.0 n (subst (λ c. T (is_lt c)
 
 module _ (slots : Place → Option Slot) (k : ℕ) (o : Option Entry) (rest : Rows) (a : Agrees slots ((k, o) ∷ rest) []) where
   first_row : row_at ((k, o) ∷ rest) k ≡ Some o
-  first_row = row_head k (k, o) rest ∙ ap (λ b. cond b (Some o) (row_at rest k)) (number_itself k)
+  first_row = row_head k (k, o) rest ∙ ap (λ b. cond b (Some o) (row_at rest k)) ((unsigned_Decides k k).1 refl)
 
   first_entry : (w : Option Entry) → o ≡ w → (e : Entry) × (o ≡ Some e)
   first_entry None h = absurd (true≢false (sym (ap (λ v. is_blank (Some v)) h) ∙ sym (ap is_blank first_row) ∙ a.blank k))
@@ -188,7 +176,7 @@ no_blank_behind row rows sorted h n (Some None) e = sym (ap is_blank (row_behind
 no_blank_behind row rows sorted h n (Some (Some d)) e = refl
 
 length_row : (row : ℕ × Option Entry) (rows : Rows) (o : Option Entry) → row.1 ≡ o → IsStrictlySortedBy nat_cmp (keys_of (row ∷ rows)) → HaveNoBlank (row ∷ rows) → HaveOwnPlaces (row ∷ rows) → length (table_by rows) ≡ length rows → length (with_row o (table_by rows)) ≡ length rows + 1
-length_row row rows None is sorted h own rest = absurd (true≢false (sym (ap (λ v. is_blank (Some v)) is) ∙ sym (ap is_blank (row_head row.0 row rows ∙ ap (λ b. cond b (Some row.1) (row_at rows row.0)) (number_itself row.0))) ∙ h row.0))
+length_row row rows None is sorted h own rest = absurd (true≢false (sym (ap (λ v. is_blank (Some v)) is) ∙ sym (ap is_blank (row_head row.0 row rows ∙ ap (λ b. cond b (Some row.1) (row_at rows row.0)) ((unsigned_Decides row.0 row.0).1 refl))) ∙ h row.0))
 length_row row rows (Some e) is sorted h own rest =
     length-put place_cmp total (e.id, e.key) (stored_by e) (table_by rows) (from_is_true _ (IsTable-shown rows))
     ∙ ap (λ b. cond b (length (table_by rows)) (length (table_by rows) + 1)) (nothing (at (table_by rows) (e.id, e.key)) refl)
@@ -198,7 +186,7 @@ length_row row rows (Some e) is sorted h own rest =
     nothing None there = refl
     nothing (Some g) there =
         let s = shows rows (e.id, e.key) g (sorted_tail nat_cmp row.0 (keys_of rows) sorted) there in
-        let head : row_at (row ∷ rows) row.0 ≡ Some (Some e) = row_head row.0 row rows ∙ ap (λ b. cond b (Some row.1) (row_at rows row.0)) (number_itself row.0) ∙ ap Some is in
+        let head : row_at (row ∷ rows) row.0 ≡ Some (Some e) = row_head row.0 row rows ∙ ap (λ b. cond b (Some row.1) (row_at rows row.0)) ((unsigned_Decides row.0 row.0).1 refl) ∙ ap Some is in
         let same : row.0 ≡ s.lsn = own row.0 s.lsn e s.entry head (row_behind s.lsn row rows (Some s.entry) sorted s.row) (sym s.place) in
         let later : row.0 < s.lsn = row_later row rows s.lsn (Some s.entry) sorted s.row in
         absurd (omega (arith, same, later))

@@ -1,9 +1,11 @@
 -- What a change of a table changes at each place.
-use Rattle.std.proofs.Common.{◌≡◌, Bool, true, false, not, ◌&&◌, cond, T, List, [], ◌∷◌, Option, Some, None, IsTrue, refl, sym, ap, ◌∙◌, subst, Ordering, Less, Equal, Greater, is_eq, nat_cmp, true≢false}
-use Rattle.std.specs.Ordering.{eq_by_cmp, ordering_then}
+use Rattle.std.proofs.Common.{◌≡◌, Bool, true, false, cond, Some, None, refl, sym, ap, ◌∙◌, nat_cmp}
+use Rattle.std.specs.Ordering.{eq_by_cmp}
 use Rattle.std.specs.Cmp.{IsTotalOrder, both_tied, on_total, then_total, eq_by_cmp_equiv}
 use Rattle.std.specs.Cmp.Lexicographic.{slice_cmp, nat_list_cmp_total, texts_ties}
-use Rattle.std.specs.FinMap.Entries.{put, find, where_key, is_sorted, is_sorted-put, is_sorted-where_key, find-put, find-where_key, same_entries}
+use Rattle.std.specs.FinMap.Entries.{put, where_key, is_sorted-put, is_sorted-where_key, find-put, find-where_key, same_entries}
+use Rattle.std.proofs.lemmas.Bool.{and_parts}
+use Rattle.std.proofs.lemmas.Slice.Eq.{bytes_eq-Decides}
 use Rattle.std.proofs.lemmas.Map.Lookups.{exact_bytes, exact_pairs}
 use Rattle.frs_types.specs.Maps.{Place, Table, IsTable, at, place_cmp, same_place}
 use Rattle.frs_types.proofs.Truth.{is_true, from_is_true}
@@ -11,19 +13,11 @@ use Rattle.frs_types.proofs.Truth.{is_true, from_is_true}
 abbrev pub total : IsTotalOrder place_cmp
 total = then_total (on_total (λ (p : Place). p.0) nat_list_cmp_total) (on_total (λ (p : Place). p.1) nat_list_cmp_total)
 
-pub one_place : (p q : Place) → place_cmp p q ≡ Equal → p ≡ q
-one_place = exact_pairs (slice_cmp nat_cmp) (slice_cmp nat_cmp) exact_bytes exact_bytes
-
 pub tied_place : (p q : Place) → eq_by_cmp place_cmp p q ≡ same_place p q
 tied_place p q = sym (both_tied _ _ (slice_cmp nat_cmp p.0 q.0) (slice_cmp nat_cmp p.1 q.1) (texts_ties p.0 q.0) (texts_ties p.1 q.1))
 
-equal_from : (o : Ordering) → is_eq o ≡ true → o ≡ Equal
-equal_from Less e = absurd (true≢false (sym e))
-equal_from Equal e = refl
-equal_from Greater e = absurd (true≢false (sym e))
-
 pub place_from : (p q : Place) → same_place p q ≡ true → p ≡ q
-place_from p q e = one_place p q (equal_from (place_cmp p q) (tied_place p q ∙ e))
+place_from p q e = λ i. (((bytes_eq-Decides p.0 q.0).0 (and_parts _ _ e).0) i, ((bytes_eq-Decides p.1 q.1).0 (and_parts _ _ e).1) i)
 
 pub place_itself : (p : Place) → same_place p p ≡ true
 place_itself p = sym (tied_place p p) ∙ (eq_by_cmp_equiv total).refl p
@@ -47,7 +41,7 @@ module _ {X : Type 0} where
   at-put p q x t = find-put place_cmp total q p x t ∙ ap (λ b. cond b (Some x) (at t q)) ((eq_by_cmp_equiv total).symm q p ∙ tied_place p q)
 
   pub at-where : (test : Place → Bool) (q : Place) (t : Table X) → at (where_key place_cmp test t) q ≡ cond (test q) (at t q) None
-  at-where test q t = find-where_key place_cmp test q (λ x e. ap test (sym (one_place q x e))) t
+  at-where test q t = find-where_key place_cmp test q (λ x e. ap test (sym (exact_pairs (slice_cmp nat_cmp) (slice_cmp nat_cmp) exact_bytes exact_bytes q x e))) t
 
   pub same_tables : (s t : Table X) → IsTable s → IsTable t → ((p : Place) → at s p ≡ at t p) → s ≡ t
-  same_tables s t i j same = same_entries place_cmp total one_place s t (from_is_true _ i) (from_is_true _ j) same
+  same_tables s t i j same = same_entries place_cmp total (exact_pairs (slice_cmp nat_cmp) (slice_cmp nat_cmp) exact_bytes exact_bytes) s t (from_is_true _ i) (from_is_true _ j) same

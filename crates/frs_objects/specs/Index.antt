@@ -10,7 +10,7 @@ use Rattle.frs_types.specs.declared.record.Entry.{Entry}
 use Rattle.frs_types.specs.Maps.{Place, Table, place_cmp, same_place}
 use Rattle.frs_types.specs.Lawful.{StoredValue}
 use Rattle.frs_objects.specs.declared.op.Op.{Op}
-use Rattle.frs_objects.specs.declared.op.Op.TheVariants.{Put, Remove, Delete}
+use Rattle.frs_objects.specs.declared.op.Op.TheVariants.{Put}
 use Rattle.frs_objects.specs.declared.places.Slot.{Slot}
 use Rattle.frs_objects.specs.declared.index.Index.{Index}
 use Rattle.frs_objects.specs.Slots.{slot_at, settled}
@@ -67,9 +67,11 @@ HaveOwnLsns (w ∷ ws) = (list_any (λ (x : Place × ℕ). x.1 == w.1) ws ≡ fa
 pub record Agrees (slots : Place → Option Slot) (rows : Rows) (puts : List (Place × ℕ)) : Type 0 where
   pub ordered : IsStrictlySortedBy nat_cmp (keys_of rows)
   -- each entry stands under its LSN, and its place names that LSN
-  pub owned : (n : ℕ) (e : Entry) → row_at rows n ≡ Some (Some e) → (e.lsn ≡ n) × (lsn_in (slots (e.id, e.key)) ≡ Some n)
+  pub owned : (n : ℕ) (e : Entry) → row_at rows n ≡ Some (Some e) → (e.lsn ≡ n)
+      × (lsn_in (slots (e.id, e.key)) ≡ Some n)
   -- under each LSN that a place names stands its entry
-  pub found : (p : Place) (n : ℕ) → lsn_in (slots p) ≡ Some n → (e : Entry) × (row_at rows n ≡ Some (Some e)) × ((e.id, e.key) ≡ p)
+  pub found : (p : Place) (n : ℕ) → lsn_in (slots p) ≡ Some n → (e : Entry) × (row_at rows n ≡ Some (Some e))
+      × ((e.id, e.key) ≡ p)
   -- each place has an entry, or puts need it
   pub needed : (p : Place) (s : Slot) → slots p ≡ Some s → settled s ≡ Some s
   pub counted : (p : Place) → wanted_in (slots p) ≡ demand puts p

@@ -1,5 +1,5 @@
 -- Entries as a table: which operation makes which change, the oldest entry, and which LSNs are new.
-use Rattle.std.specs.Prelude.{ℕ, ◌<◌, nat_lt, ◌==◌, Bool, false, ◌≡◌, ⊤, List, [], ◌∷◌, map, Option, Some, None, if◌then◌else◌, option_map, unwrap_or}
+use Rattle.std.specs.Prelude.{ℕ, ◌<◌, nat_lt, ◌==◌, false, ◌≡◌, ⊤, List, [], ◌∷◌, map, Option, Some, None, if◌then◌else◌, option_map, unwrap_or}
 use Rattle.std.specs.List.{list_any, AllByRecursion}
 use Rattle.std.specs.FinMap.Entries.{put}
 use Rattle.frs_types.specs.declared.record.Entry.{Entry}
@@ -78,4 +78,5 @@ lsn_of_place t p = unwrap_or (option_map (λ (h : StoredValue). h.lsn) (at t p))
 
 -- the table with another LSN at a place
 abbrev pub with_lsn : Table StoredValue → Place → ℕ → Table StoredValue
-with_lsn t p n = put place_cmp p (record { value = unwrap_or (option_map (λ (h : StoredValue). h.value) (at t p)) []; lsn = n }) t
+with_lsn t p n = put place_cmp p
+    (record { value = unwrap_or (option_map (λ (h : StoredValue). h.value) (at t p)) []; lsn = n }) t

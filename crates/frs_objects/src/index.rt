@@ -78,7 +78,8 @@ impl Index {
 
     /// Whether an entry has this LSN. Takes no memory.
     pub fn has_lsn(&self, lsn: u64) -> bool
-        ensures { IsIndex self.now [] → result ≡ list_any (λ m. m == lsn) (table_lsns (table_in self.now)) }
+        ensures { IsIndex self.now []
+            → result ≡ list_any (λ m. m == lsn) (table_lsns (table_in self.now)) }
     {
         self.entries.contains_key(&lsn)
     }
@@ -96,7 +97,8 @@ impl Index {
     pub fn insert(&mut self, alloc: Global, entry: Entry) -> Result<(), NoMemory>
         requires index { IsIndex self.old [] }
         requires new { row_at self.old.entries.entries entry.lsn ≡ None }
-        ensures others { (n : ℕ) → (entry.lsn == n) ≡ false → row_at self.old.entries.entries n ≡ None
+        ensures others { (n : ℕ) → (entry.lsn == n) ≡ false
+            → row_at self.old.entries.entries n ≡ None
             → row_at self.new.entries.entries n ≡ None }
         ensures index { IsIndex self.new [] }
         ensures shown { OnOk result (table_in self.new
@@ -135,9 +137,11 @@ impl Index {
     /// Keeps an LSN and a place no more. Changes nothing that is shown.
     pub fn release(&mut self, id: &MapId, key: &Key, lsn: u64)
         requires { KeepsFor self.old (id.now, key.now) lsn }
-        ensures kept { (puts : List (Place × ℕ)) → IsIndex self.old (((id.now, key.now), lsn) ∷ puts)
+        ensures kept { (puts : List (Place × ℕ))
+            → IsIndex self.old (((id.now, key.now), lsn) ∷ puts)
             → IsIndex self.new puts }
-        ensures shown { (puts : List (Place × ℕ)) → IsIndex self.old (((id.now, key.now), lsn) ∷ puts)
+        ensures shown { (puts : List (Place × ℕ))
+            → IsIndex self.old (((id.now, key.now), lsn) ∷ puts)
             → table_in self.new ≡ table_in self.old }
     {
         let Some(slot) = self.places.slot(id, key) else {
@@ -161,7 +165,8 @@ impl Index {
         requires lsn { is_blank (row_at self.old.entries.entries entry.lsn) ≡ true }
         ensures slots { (q : Place) → slot_at self.new.places.maps q
             ≡ cond (same_place (entry.id, entry.key) q)
-            (Some (record { lsn = Some entry.lsn; wanted = wanted })) (slot_at self.old.places.maps q) }
+            (Some (record { lsn = Some entry.lsn; wanted = wanted }))
+            (slot_at self.old.places.maps q) }
         ensures rows { (n : ℕ) → row_at self.new.entries.entries n
             ≡ cond (entry.lsn == n) (Some (Some entry)) (row_at self.old.entries.entries n) }
         ensures ordered { IsStrictlySortedBy nat_cmp (keys_of self.new.entries.entries) }
@@ -178,12 +183,16 @@ impl Index {
     /// Makes a put, for which its LSN and its place are kept. Takes no memory.
     pub fn commit(&mut self, entry: Entry)
         requires { KeepsFor self.old (entry.id, entry.key) entry.lsn }
-        ensures others { (n : ℕ) → (entry.lsn == n) ≡ false → row_at self.old.entries.entries n ≡ None
+        ensures others { (n : ℕ) → (entry.lsn == n) ≡ false
+            → row_at self.old.entries.entries n ≡ None
             → row_at self.new.entries.entries n ≡ None }
-        ensures made { (puts : List (Place × ℕ)) → IsIndex self.old (((entry.id, entry.key), entry.lsn) ∷ puts)
+        ensures made { (puts : List (Place × ℕ))
+            → IsIndex self.old (((entry.id, entry.key), entry.lsn) ∷ puts)
             → IsIndex self.new puts }
-        ensures shown { (puts : List (Place × ℕ)) → IsIndex self.old (((entry.id, entry.key), entry.lsn) ∷ puts)
-            → table_in self.new ≡ put place_cmp (entry.id, entry.key) (stored_by entry) (table_in self.old) }
+        ensures shown { (puts : List (Place × ℕ))
+            → IsIndex self.old (((entry.id, entry.key), entry.lsn) ∷ puts)
+            → table_in self.new
+            ≡ put place_cmp (entry.id, entry.key) (stored_by entry) (table_in self.old) }
     {
         let Some(slot) = self.places.slot(&entry.id, &entry.key) else {
             return;
@@ -217,7 +226,8 @@ impl Index {
 
     /// The LSN of the entry at a place, or 0.
     pub fn lsn(&self, id: &MapId, key: &Key) -> u64
-        ensures { IsIndex self.now [] → result ≡ lsn_of_place (table_in self.now) (id.now, key.now) }
+        ensures { IsIndex self.now []
+            → result ≡ lsn_of_place (table_in self.now) (id.now, key.now) }
     {
         match self.get(id, key) {
             Some(entry) => entry.lsn,
@@ -237,7 +247,8 @@ impl Index {
         requires entry { IsSome (at (table_in self.old) (id.now, key.now)) }
         requires new { AreNew (table_in self.old) (to ∷ []) }
         ensures index { IsIndex self.new [] }
-        ensures moved { OnOk result (table_in self.new ≡ with_lsn (table_in self.old) (id.now, key.now) to) }
+        ensures moved { OnOk result (table_in self.new
+            ≡ with_lsn (table_in self.old) (id.now, key.now) to) }
         ensures refused { OnErr result (table_in self.new ≡ table_in self.old) }
     {
         self.reserve(alloc, id, key, to)?;
@@ -336,7 +347,8 @@ impl Index {
     pub fn reserve_all(&mut self, alloc: Global, ops: &[Op]) -> Result<(), NoMemory>
         requires index { IsIndex self.old [] }
         requires new { AreNew (table_in self.old) (put_lsns (puts_among ops.now)) }
-        ensures kept { MatchResult result (λ _. IsIndex self.new (puts_among ops.now)) (λ _. IsIndex self.new []) }
+        ensures kept { MatchResult result (λ _. IsIndex self.new (puts_among ops.now))
+            (λ _. IsIndex self.new []) }
         ensures shown { table_in self.new ≡ table_in self.old }
     {
         let mut left = ops.len();

@@ -88,7 +88,8 @@ impl Objects {
     /// counts. After want of memory both are as they were. Its LSNs are new and rising.
     pub fn apply(&mut self, alloc: Global, ops: &mut Vec<Op>) -> Result<(), NoMemory>
         requires { AreNew self.old (put_lsns (puts_among ops.old.items)) }
-        ensures applied { OnOk result (self.new ≡ table_after_all self.old (map change_by ops.old.items)) }
+        ensures applied { OnOk result (self.new
+            ≡ table_after_all self.old (map change_by ops.old.items)) }
         ensures emptied { OnOk result (ops.new.items ≡ []) }
         ensures refused { OnErr result (self.new ≡ self.old) }
         ensures kept { OnErr result (ops.new.items ≡ ops.old.items) }

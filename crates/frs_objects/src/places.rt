@@ -70,7 +70,8 @@ impl Places {
         requires { wanted_in (slot_at self.old.maps (id.now, key.now)) + 1 < 2 ^ 64 }
         ensures wanted { OnOk result ((q : Place) → slot_at self.new.maps q
             ≡ cond (same_place (id.now, key.now) q)
-            (Some (wanted_more (slot_at self.old.maps (id.now, key.now)))) (slot_at self.old.maps q)) }
+            (Some (wanted_more (slot_at self.old.maps (id.now, key.now))))
+            (slot_at self.old.maps q)) }
         ensures refused { OnErr result ((q : Place) → slot_at self.new.maps q
             ≡ slot_at self.old.maps q) }
     {
@@ -115,7 +116,8 @@ impl Places {
     /// Takes the entries of a map out, and the places that nothing needs.
     pub fn empty(&mut self, id: &MapId)
         ensures { (q : Place) → slot_at self.new.maps q
-            ≡ cond (bytes_eq id.now q.0) (emptied (slot_at self.old.maps q)) (slot_at self.old.maps q) }
+            ≡ cond (bytes_eq id.now q.0) (emptied (slot_at self.old.maps q))
+            (slot_at self.old.maps q) }
     {
         let Some(map) = self.maps.get_mut(id) else {
             return;

@@ -35,7 +35,8 @@ fn delete(alloc: Global, id: &[u8]) -> Result<Op, WordFault> {
 // Whether the LSNs of the puts are new, and rise from above this number.
 fn are_new(objects: &Objects, ops: &[Op], above: u64) -> bool
     ensures new { IsTrue result → AreNew objects.now (put_lsns (puts_among ops.now)) }
-    ensures rising { IsTrue result → AllByRecursion (λ m. above < m) (put_lsns (puts_among ops.now)) }
+    ensures rising { IsTrue result
+        → AllByRecursion (λ m. above < m) (put_lsns (puts_among ops.now)) }
 {
     let Some((op, later)) = ops.split_first() else {
         return true;

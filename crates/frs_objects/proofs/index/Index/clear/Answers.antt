@@ -1,8 +1,7 @@
 -- The entries of the map go; where there is no map, nothing changes.
-use Rattle.std.proofs.Common.{refl, false, ◌≡◌, ℕ, List}
+use Rattle.std.proofs.Common.{refl, false, ℕ, List}
 use Rattle.std.specs.List.{list_any}
 use Rattle.std.specs.Str.{bytes_eq}
-use Rattle.frs_types.specs.Maps.{Place}
 use Rattle.frs_objects.specs.declared.places.Slot.{Slot}
 use Rattle.frs_objects.specs.Slots.{slot_at}
 use Rattle.frs_objects.specs.Index.{is_lsn}

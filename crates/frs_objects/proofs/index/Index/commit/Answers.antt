@@ -1,5 +1,5 @@
 -- By the slot that was kept.
-use Rattle.std.proofs.Common.{◌∙◌, ap, sym, cond, Some, None, true, ◌≡◌, ◌-◌}
+use Rattle.std.proofs.Common.{◌∙◌, ap, cond, Some, None, ◌-◌}
 use Rattle.std.specs.Prelude.{◌==◌}
 use Rattle.frs_types.specs.Maps.{Place}
 use Rattle.frs_objects.specs.Slots.{slot_at}

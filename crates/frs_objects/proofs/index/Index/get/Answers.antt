@@ -1,6 +1,5 @@
 -- By the LSN of the place.
 use Rattle.std.proofs.Common.{◌∙◌, ap, sym}
-use Rattle.frs_types.specs.Maps.{Place}
 use Rattle.frs_objects.specs.Slots.{slot_at}
 use Rattle.frs_objects.specs.Index.{lsn_in}
 use Rattle.frs_objects.proofs.Agreement.{entry_none, entry_some, entry_lost}

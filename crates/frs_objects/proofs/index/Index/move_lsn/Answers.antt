@@ -1,8 +1,8 @@
 -- The LSN is kept, and the entry put back under it.
-use Rattle.std.proofs.Common.{◌∙◌, ap, sym, refl, [], Some, None, ◌≡◌, unwrap_or, Option}
+use Rattle.std.proofs.Common.{◌∙◌, ap, sym, refl, [], unwrap_or, Option}
 use Rattle.std.specs.Prelude.{option_map}
 use Rattle.std.specs.FinMap.Entries.{put}
-use Rattle.frs_types.specs.Maps.{Place, Table, at, place_cmp}
+use Rattle.frs_types.specs.Maps.{Place, at, place_cmp}
 use Rattle.frs_types.specs.Lawful.{StoredValue}
 use Rattle.frs_objects.specs.Slots.{slot_at}
 use Rattle.frs_objects.specs.Index.{table_in}

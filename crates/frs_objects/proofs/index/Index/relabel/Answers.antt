@@ -1,10 +1,10 @@
 -- By the entry that is put back.
-use Rattle.std.proofs.Common.{◌∙◌, ap, sym, cond, Some, None, is_some, ◌≡◌}
+use Rattle.std.proofs.Common.{◌∙◌, ap, sym, cond, Some, is_some}
 use Rattle.std.specs.Prelude.{◌==◌}
 use Rattle.frs_types.specs.Maps.{Place}
 use Rattle.frs_objects.specs.Slots.{slot_at}
-use Rattle.frs_objects.specs.Index.{lsn_in, is_lsn, is_blank, row_at}
-use Rattle.frs_objects.proofs.Agreement.{not_missing, wanted_some, kept_row, blank_apart, entry_placed, entry_there, Agrees-moved, moved_shown}
+use Rattle.frs_objects.specs.Index.{lsn_in}
+use Rattle.frs_objects.proofs.Agreement.{not_missing, wanted_some, entry_placed, entry_there, Agrees-moved, moved_shown}
 use Rattle.frs_objects.proofs.index.Index.relabel.Goals as goal
 
 pub returns-in_default-clause-made : goal.returns-in_default-clause-made

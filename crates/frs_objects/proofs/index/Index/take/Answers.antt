@@ -1,7 +1,7 @@
 -- The place's entry goes; where there is no place, nothing changes.
-use Rattle.std.proofs.Common.{◌∙◌, ap, sym, cond, refl, Some, None, ◌≡◌}
+use Rattle.std.proofs.Common.{◌∙◌, ap, sym, cond, None}
 use Rattle.frs_types.specs.Maps.{Place, same_place}
-use Rattle.frs_objects.specs.Slots.{slot_at, emptied}
+use Rattle.frs_objects.specs.Slots.{slot_at}
 use Rattle.frs_objects.specs.Index.{lsn_in, is_lsn, row_at}
 use Rattle.frs_objects.proofs.Agreement.{Agrees-taken, taken_shown, blank_apart, lsn_apart, nothing_to_take, emptied_here}
 use Rattle.frs_objects.proofs.index.Index.take.Goals as goal

@@ -1,5 +1,5 @@
 -- Entry by entry.
-use Rattle.std.proofs.Common.{◌∙◌, ap, sym, subst, ◌≡◌, ℕ, List, true, None, ◌∷◌}
+use Rattle.std.proofs.Common.{◌∙◌, ap, sym, subst, ◌≡◌, ◌∷◌}
 use Rattle.std.specs.Prelude.{◌==◌, fold}
 use Rattle.std.specs.List.{list_any}
 use Rattle.std.specs.FinMap.Entries.{put}

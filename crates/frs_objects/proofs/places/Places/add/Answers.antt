@@ -1,5 +1,5 @@
 -- The map of the id gets the key, or is new.
-use Rattle.std.proofs.Common.{◌∙◌, ap, sym, refl, Some, None, cond, ◌≡◌}
+use Rattle.std.proofs.Common.{◌∙◌, ap, sym, Some, cond, ◌≡◌}
 use Rattle.std.specs.Str.{bytes_eq}
 use Rattle.frs_objects.specs.Slots.{slot_in}
 use Rattle.frs_objects.proofs.SlotAt.{changed, unchanged, at_write, at_update, same_at, of_refusal, by_bytes, none_in}

@@ -1,5 +1,4 @@
 -- The map of the id is changed, and goes where it has nothing left.
-use Rattle.std.proofs.Common.{sym}
 use Rattle.frs_objects.proofs.SlotAt.{emptied_map, emptied_gone, no_entries}
 use Rattle.frs_objects.proofs.places.Places.empty.Goals as goal
 
