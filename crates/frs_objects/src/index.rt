@@ -60,10 +60,10 @@ impl Index {
     pub fn oldest(&self) -> Option<&Entry>
         ensures { IsIndex self.now [] → option_copied result ≡ oldest_entry (table_in self.now) }
     {
-        match self.entries.first_key_value() {
-            Some((_, row)) => row.as_ref(),
-            None => None,
-        }
+        let Some((_, row)) = self.entries.first_key_value() else {
+            return None;
+        };
+        row.as_ref()
     }
 
     /// The least LSN. Takes no memory.
@@ -262,16 +262,16 @@ impl Index {
         ensures shown { (puts : List (Place × ℕ)) → IsIndex self.old puts → table_in self.new
             ≡ where_key place_cmp (λ q. not (same_place (id.now, key.now) q)) (table_in self.old) }
     {
-        let Some(slot) = self.places.slot(id, key) else {
+        let Some(held) = self.places.slot(id, key) else {
             return;
         };
-        take_row(&mut self.entries, slot.lsn);
+        take_row(&mut self.entries, held.lsn);
         self.places.settle(
             id,
             key,
             Slot {
                 lsn: None,
-                wanted: slot.wanted,
+                wanted: held.wanted,
             },
         );
     }

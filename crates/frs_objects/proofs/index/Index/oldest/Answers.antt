@@ -4,5 +4,5 @@ use Rattle.frs_objects.specs.Slots.{slot_at}
 use Rattle.frs_objects.proofs.Oldest.{oldest_of_rows}
 use Rattle.frs_objects.proofs.index.Index.oldest.Goals as goal
 
-pub returns-in-Some : goal.returns-in-Some
-returns-in-Some c a = c.as_ref.ensures.value ∙ oldest_of_rows (slot_at c.args.self.now.places.maps) c.args.self.now.entries.entries a _ _ c.in-Some.ensures.first
+pub returns : goal.returns
+returns c a = c.as_ref.ensures.value ∙ oldest_of_rows (slot_at c.args.self.now.places.maps) c.args.self.now.entries.entries a _ _ c.in-Some.ensures.first

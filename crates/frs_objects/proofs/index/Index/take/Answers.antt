@@ -22,7 +22,7 @@ returns-clause-taken c puts a =
     let p : Place = (c.args.id.now, c.args.key.now) in
     let rows = c.args.self.now.entries.entries in
     Agrees-taken S (slot_at c.settle.new.self.maps) rows c.take_row.new.entries.entries (same_place p) (is_lsn (lsn_in (S p))) puts a (c.take_row.ensures.ordered a.ordered)
-    (emptied_here S (slot_at c.settle.new.self.maps) p c.in-Some.slot c.in-Some.ensures c.settle.ensures)
+    (emptied_here S (slot_at c.settle.new.self.maps) p c.in-Some.held c.in-Some.ensures c.settle.ensures)
     (λ n. c.take_row.ensures.rows n ∙ ap (λ v. cond (is_lsn v n) None (row_at rows n)) (ap lsn_in c.in-Some.ensures))
     (lsn_apart S rows puts a p) (blank_apart S rows puts a p)
 
@@ -32,6 +32,6 @@ returns-clause-shown c puts a =
     let p : Place = (c.args.id.now, c.args.key.now) in
     let rows = c.args.self.now.entries.entries in
     taken_shown S (slot_at c.settle.new.self.maps) rows c.take_row.new.entries.entries (same_place p) (is_lsn (lsn_in (S p))) puts a (c.take_row.ensures.ordered a.ordered)
-    (emptied_here S (slot_at c.settle.new.self.maps) p c.in-Some.slot c.in-Some.ensures c.settle.ensures)
+    (emptied_here S (slot_at c.settle.new.self.maps) p c.in-Some.held c.in-Some.ensures c.settle.ensures)
     (λ n. c.take_row.ensures.rows n ∙ ap (λ v. cond (is_lsn v n) None (row_at rows n)) (ap lsn_in c.in-Some.ensures))
     (lsn_apart S rows puts a p) (blank_apart S rows puts a p)
