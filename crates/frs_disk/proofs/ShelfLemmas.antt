@@ -10,7 +10,7 @@ use Rattle.std.specs.Ordering.{nat_cmp, is_eq}
 use Rattle.std.specs.Cmp.{IsTotalOrder, nat_cmp_total}
 use Rattle.std.specs.FinMap.{entries, get, insert, put, is_sorted, from_sorted, entries-insert, entries-from_sorted, entries_sorted, same_entries_map, get-insert, empty, get-from_sorted, get-empty, same_map}
 use Rattle.frs_disk.specs.Outside.{shelf_cmp, ShelfFiles, greatest_of, greatest_snapshot}
-use Rattle.frs_disk.specs.Shelved.{shelved}
+use Rattle.frs_disk.specs.ShelfEntries.{shelf_entries}
 
 abbrev pub Segment : Type 0
 Segment = ℕ × ℕ × Vec ℕ Global
@@ -47,39 +47,39 @@ put_less : (k : ℕ × ℕ) (v : List ℕ) (e : (ℕ × ℕ) × List ℕ) (es : 
 put_less k v e es is = rw is
 
 pub set_here : (held : List Segment) (at : ℕ) (key : ℕ × ℕ) (f : Segment) (v : List ℕ) → Passed held at key → at < length held → f ≡ get_or held at f → shelf_cmp key (f.0, f.1) ≡ Equal
-    → put shelf_cmp key v (shelved held) ≡ set (shelved held) at (key, v)
+    → put shelf_cmp key v (shelf_entries held) ≡ set (shelf_entries held) at (key, v)
 set_here [] at key f v passed lt is same = absurd (omega arith)
 set_here (e ∷ held) zero key f v passed lt is same =
     let here : shelf_cmp key (e.0, e.1) ≡ Equal = subst (λ (x : Segment). shelf_cmp key (x.0, x.1) ≡ Equal) is same in
-    put_equal key v ((e.0, e.1), e.2.items) (shelved held) here ∙ ap (λ (k : ℕ × ℕ). (k, v) ∷ shelved held) (sym (shelf_exact key (e.0, e.1) here))
+    put_equal key v ((e.0, e.1), e.2.items) (shelf_entries held) here ∙ ap (λ (k : ℕ × ℕ). (k, v) ∷ shelf_entries held) (sym (shelf_exact key (e.0, e.1) here))
 set_here (e ∷ held) (suc at) key f v passed lt is same =
-    put_greater key v ((e.0, e.1), e.2.items) (shelved held) passed.0 ∙ ap (λ (l : List ((ℕ × ℕ) × List ℕ)). ((e.0, e.1), e.2.items) ∷ l) (set_here held at key f v passed.1 (omega arith) is same)
+    put_greater key v ((e.0, e.1), e.2.items) (shelf_entries held) passed.0 ∙ ap (λ (l : List ((ℕ × ℕ) × List ℕ)). ((e.0, e.1), e.2.items) ∷ l) (set_here held at key f v passed.1 (omega arith) is same)
 
 pub insert_here : (held : List Segment) (at : ℕ) (key : ℕ × ℕ) (f : Segment) (v : List ℕ) → Passed held at key → at < length held → f ≡ get_or held at f → shelf_cmp key (f.0, f.1) ≡ Less
-    → put shelf_cmp key v (shelved held) ≡ insert_at (shelved held) at (key, v)
+    → put shelf_cmp key v (shelf_entries held) ≡ insert_at (shelf_entries held) at (key, v)
 insert_here [] at key f v passed lt is less = absurd (omega arith)
-insert_here (e ∷ held) zero key f v passed lt is less = put_less key v ((e.0, e.1), e.2.items) (shelved held) (subst (λ (x : Segment). shelf_cmp key (x.0, x.1) ≡ Less) is less)
+insert_here (e ∷ held) zero key f v passed lt is less = put_less key v ((e.0, e.1), e.2.items) (shelf_entries held) (subst (λ (x : Segment). shelf_cmp key (x.0, x.1) ≡ Less) is less)
 insert_here (e ∷ held) (suc at) key f v passed lt is less =
-    put_greater key v ((e.0, e.1), e.2.items) (shelved held) passed.0 ∙ ap (λ (l : List ((ℕ × ℕ) × List ℕ)). ((e.0, e.1), e.2.items) ∷ l) (insert_here held at key f v passed.1 (omega arith) is less)
+    put_greater key v ((e.0, e.1), e.2.items) (shelf_entries held) passed.0 ∙ ap (λ (l : List ((ℕ × ℕ) × List ℕ)). ((e.0, e.1), e.2.items) ∷ l) (insert_here held at key f v passed.1 (omega arith) is less)
 
-pub insert_last : (held : List Segment) (at : ℕ) (key : ℕ × ℕ) (v : List ℕ) → Passed held at key → at ≡ length held → put shelf_cmp key v (shelved held) ≡ insert_at (shelved held) at (key, v)
+pub insert_last : (held : List Segment) (at : ℕ) (key : ℕ × ℕ) (v : List ℕ) → Passed held at key → at ≡ length held → put shelf_cmp key v (shelf_entries held) ≡ insert_at (shelf_entries held) at (key, v)
 insert_last [] zero key v passed end = refl
 insert_last [] (suc at) key v passed end = absurd (omega arith)
 insert_last (e ∷ held) zero key v passed end = absurd (omega arith)
 insert_last (e ∷ held) (suc at) key v passed end =
-    put_greater key v ((e.0, e.1), e.2.items) (shelved held) passed.0 ∙ ap (λ (l : List ((ℕ × ℕ) × List ℕ)). ((e.0, e.1), e.2.items) ∷ l) (insert_last held at key v passed.1 (omega arith))
+    put_greater key v ((e.0, e.1), e.2.items) (shelf_entries held) passed.0 ∙ ap (λ (l : List ((ℕ × ℕ) × List ℕ)). ((e.0, e.1), e.2.items) ∷ l) (insert_last held at key v passed.1 (omega arith))
 
 -- what an edit of the vector does to the plain list
-pub shelved-set : (held : List Segment) (at : ℕ) (f : Segment) → shelved (set held at f) ≡ set (shelved held) at ((f.0, f.1), f.2.items)
-shelved-set [] at f = refl
-shelved-set (e ∷ held) zero f = refl
-shelved-set (e ∷ held) (suc at) f = ap (λ (l : List ((ℕ × ℕ) × List ℕ)). ((e.0, e.1), e.2.items) ∷ l) (shelved-set held at f)
+pub shelf_entries-set : (held : List Segment) (at : ℕ) (f : Segment) → shelf_entries (set held at f) ≡ set (shelf_entries held) at ((f.0, f.1), f.2.items)
+shelf_entries-set [] at f = refl
+shelf_entries-set (e ∷ held) zero f = refl
+shelf_entries-set (e ∷ held) (suc at) f = ap (λ (l : List ((ℕ × ℕ) × List ℕ)). ((e.0, e.1), e.2.items) ∷ l) (shelf_entries-set held at f)
 
-pub shelved-insert : (held : List Segment) (at : ℕ) (f : Segment) → shelved (insert_at held at f) ≡ insert_at (shelved held) at ((f.0, f.1), f.2.items)
-shelved-insert [] zero f = refl
-shelved-insert [] (suc at) f = refl
-shelved-insert (e ∷ held) zero f = refl
-shelved-insert (e ∷ held) (suc at) f = ap (λ (l : List ((ℕ × ℕ) × List ℕ)). ((e.0, e.1), e.2.items) ∷ l) (shelved-insert held at f)
+pub shelf_entries-insert : (held : List Segment) (at : ℕ) (f : Segment) → shelf_entries (insert_at held at f) ≡ insert_at (shelf_entries held) at ((f.0, f.1), f.2.items)
+shelf_entries-insert [] zero f = refl
+shelf_entries-insert [] (suc at) f = refl
+shelf_entries-insert (e ∷ held) zero f = refl
+shelf_entries-insert (e ∷ held) (suc at) f = ap (λ (l : List ((ℕ × ℕ) × List ℕ)). ((e.0, e.1), e.2.items) ∷ l) (shelf_entries-insert held at f)
 
 -- what a `put` does to the map
 pub put_rising : (es fs : List ((ℕ × ℕ) × List ℕ)) (k : ℕ × ℕ) (v : List ℕ) → T (is_sorted shelf_cmp es) → fs ≡ put shelf_cmp k v es → T (is_sorted shelf_cmp fs)
@@ -108,9 +108,9 @@ pub from_none : from_sorted {X = List ℕ} {R = shelf_cmp} [] ≡ empty
 from_none = same_map shelf_total shelf_exact _ _ (λ q. get-from_sorted shelf_cmp [] q tt ∙ sym (get-empty shelf_cmp q))
 
 -- the numbers of snapshots
-numbers : (held : List Segment) → map (λ k. k.0) (map (λ e. e.0) (shelved held)) ≡ map (λ e. e.0) held
+numbers : (held : List Segment) → map (λ k. k.0) (map (λ e. e.0) (shelf_entries held)) ≡ map (λ e. e.0) held
 numbers [] = refl
 numbers (e ∷ held) = ap (λ (l : List ℕ). e.0 ∷ l) (numbers held)
 
-pub greatest_held : (held : List Segment) → T (is_sorted shelf_cmp (shelved held)) → greatest_snapshot (from_sorted (shelved held)) ≡ greatest_of (map (λ e. e.0) held)
-greatest_held held rising = ap greatest_of (ap (λ (l : List ((ℕ × ℕ) × List ℕ)). map (λ k. k.0) (map (λ e. e.0) l)) (entries-from_sorted shelf_cmp (shelved held) rising) ∙ numbers held)
+pub greatest_held : (held : List Segment) → T (is_sorted shelf_cmp (shelf_entries held)) → greatest_snapshot (from_sorted (shelf_entries held)) ≡ greatest_of (map (λ e. e.0) held)
+greatest_held held rising = ap greatest_of (ap (λ (l : List ((ℕ × ℕ) × List ℕ)). map (λ k. k.0) (map (λ e. e.0) l)) (entries-from_sorted shelf_cmp (shelf_entries held) rising) ∙ numbers held)

@@ -1,5 +1,5 @@
--- What a run of calls leaves of a disk beside what it was made for, and what a crash may leave while it goes on. Each word
--- takes the members of the trait as one argument.
+-- What a run of calls leaves of a disk beside what it was made for, and what a crash may leave while it goes on. Each
+-- word takes the members of the trait as one argument.
 use Rattle.std.specs.Prelude.{◌≡◌, ◌≤◌, ℕ, None, IsTrue, IsSome}
 use Rattle.std.specs.FinMap.{empty, get}
 use Rattle.frs_disk.specs.declared.disk.Disk.{Ghosts}
@@ -50,8 +50,8 @@ pub record OnlyReads {D : Type 0} (g : Ghosts D) (old new : D) : Type 0 where
   pub time : Passes g.moment g.left_since old new
   pub within : Within g old new (g.may_leave old)
 
--- It changes one file: all others are read as before, no removal is new, and each crash leaves the others as one before it
--- may have left them.
+-- It changes one file: all others are read as before, no removal is new, and each crash leaves the others as one
+-- before it may have left them.
 pub record ChangesOneFile {D : Type 0} (g : Ghosts D) (number : ℕ) (old new : D) : Type 0 where
   pub told : g.tells new ≡ g.tells old
   pub others : IsTrue (g.tells old) → SameElsewhere number (g.reads old) (g.reads new)

@@ -7,7 +7,7 @@ use Rattle.std.specs.FinMap.{from_sorted}
 use Rattle.std.specs.declared.alloc.Global.{Global}
 use Rattle.frs_disk.specs.Faults.{is_named, count_after_one, faults_after}
 use Rattle.frs_disk.specs.Outside.{shelf_cmp, ShelfFiles}
-use Rattle.frs_disk.specs.Shelved.{shelved}
+use Rattle.frs_disk.specs.ShelfEntries.{shelf_entries}
 use Rattle.frs_disk.specs.declared.disk.Fault.{Fault}
 use Rattle.frs_disk.specs.declared.disk.Fault.TheVariants.{Failed, Memory}
 use Rattle.frs_disk.specs.declared.mem_outside.Tally.{Tally}
@@ -23,7 +23,7 @@ abbrev pub files_in : MemFiles → List (List ℕ × Vec ℕ Global)
 files_in files = files.files.items
 
 abbrev pub held_on : MemShelf → ShelfFiles
-held_on shelf = from_sorted {R = shelf_cmp} (shelved shelf.held.items)
+held_on shelf = from_sorted {R = shelf_cmp} (shelf_entries shelf.held.items)
 
 abbrev pub written_to : MemSink → List ℕ
 written_to sink = sink.bytes.items

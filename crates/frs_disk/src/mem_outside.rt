@@ -2,7 +2,7 @@
 ghost use Rattle.std.specs.Prelude.{T, IsTrue};
 ghost use Rattle.std.specs.FinMap.{is_sorted};
 ghost use Rattle.frs_disk.specs.Outside.{are_short, shelf_cmp};
-ghost use Rattle.frs_disk.specs.Shelved.{shelved};
+ghost use Rattle.frs_disk.specs.ShelfEntries.{shelf_entries};
 
 mod counts;
 mod files;
@@ -34,7 +34,7 @@ pub struct MemShelf {
     alloc: Global,
     held: Vec<(u64, u64, Vec<u8>)>,
     tally: Tally,
-    ghost rising: { T (is_sorted shelf_cmp (shelved held.items)) },
+    ghost rising: { T (is_sorted shelf_cmp (shelf_entries held.items)) },
 }
 
 /// A sink in memory.

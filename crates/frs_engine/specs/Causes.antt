@@ -6,7 +6,7 @@ use Rattle.frs_history.specs.declared.event.Event.{Event}
 use Rattle.frs_disk.specs.declared.disk.Disk as disks
 use Rattle.frs_disk.specs.declared.outside.Files as files
 use Rattle.frs_disk.specs.Disk.{Rose}
-use Rattle.frs_text.specs.declared.plan.TheConstants.{CLIENT_LIMIT}
+use Rattle.frs_types.specs.declared.limits.TheConstants.{CLIENT_LIMIT}
 use Rattle.frs_text.specs.declared.plan.RunPlan.{RunPlan}
 use Rattle.frs_text.specs.declared.plan.RunPlan.TheVariants.{Scripts, Demo}
 use Rattle.frs_text.specs.declared.script_fault.ScriptFault.{ScriptFault}

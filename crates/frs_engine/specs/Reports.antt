@@ -21,8 +21,8 @@ Answers decided status before now =
     (status ≡ decided) ⊎ ((status ≡ 6) × (decided ≡ 0) × Rose before now) ⊎ (status ≡ 9)
 
 -- What was printed of the text, and which status was answered. All of the text was printed unless the sink failed, or
--- memory ran out. Where another status than that for want of memory was decided, and this one is answered, the sink hasn't
--- failed.
+-- memory ran out. Where another status than that for want of memory was decided, and this one is answered, the sink
+-- hasn't failed.
 pub record IsReported {S : Type 0} (g : Ghosts S) (text : Text) (decided status : ℕ) (old new : S) : Type 0 where
   pub answers : Answers decided status (g.faults old) (g.faults new)
   pub prints : IsTrue (g.tells old) → Prints text (g.written old) (g.written new)

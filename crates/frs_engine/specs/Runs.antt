@@ -9,7 +9,8 @@ use Rattle.frs_disk.specs.declared.outside.Files as files
 use Rattle.frs_disk.specs.declared.outside.Sink as sinks
 use Rattle.frs_disk.specs.Disk.{Image, Rose}
 use Rattle.frs_disk.specs.Frames.{LeftNoFile, OnlyReads}
-use Rattle.frs_text.specs.declared.plan.TheConstants.{CLIENT_LIMIT, DEMO_LIMIT}
+use Rattle.frs_types.specs.declared.limits.TheConstants.{CLIENT_LIMIT}
+use Rattle.frs_text.specs.declared.plan.TheConstants.{DEMO_LIMIT}
 use Rattle.frs_text.specs.declared.plan.RunPlan.{RunPlan}
 use Rattle.frs_text.specs.declared.plan.RunPlan.TheVariants.{Scripts, Demo}
 use Rattle.frs_text.specs.declared.script_fault.ScriptFault.{ScriptFault}
@@ -50,8 +51,8 @@ module _ {D : Type 0} (g : disks.Ghosts D) where
 
 -- ---- the files
 
--- The files tell what they told, and hold what they held. Where the plan hasn't one file, neither they nor the disk were
--- touched.
+-- The files tell what they told, and hold what they held. Where the plan hasn't one file, neither they nor the disk
+-- were touched.
 pub record LeavesFiles {D F : Type 0} (f : files.Ghosts F) (h : Handed D F) : Type 0 where
   pub told : f.tells h.files_after ≡ f.tells h.files
   pub kept : (name : List ℕ) → f.file h.files_after name ≡ f.file h.files name

@@ -7,7 +7,7 @@ ghost use Rattle.frs_engine.specs.Promise.{is_put_or_get, has_puts_and_gets};
 use crate::ending::Ending;
 use frs_disk::{Fault, Files, Name};
 use frs_history::{Command, Line, Script};
-use frs_text::{CLIENT_LIMIT, RunPlan, ScriptFault, parse_script};
+use frs_text::{RunPlan, ScriptFault, parse_script};
 use std::alloc::Global;
 
 /// The most commands of a script.

@@ -10,7 +10,7 @@ use Rattle.frs_types.specs.declared.record.Action.TheVariants.{Put, Remove, Dele
 use Rattle.frs_types.specs.declared.record.Record.{Record}
 use Rattle.frs_types.specs.declared.record.Entry.{Entry}
 use Rattle.frs_types.specs.Records.{Numbered, is_allowed, kind_allows, has_words}
-use Rattle.frs_types.specs.Survivors.{is_commit, is_delete_of, entry_by, with_entry, committed, committed_records, survivors_of}
+use Rattle.frs_types.specs.Survivors.{is_commit, is_delete_of, entry_by, with_entry, is_committed_by, committed_records, survivors_of}
 use Rattle.frs_filters.specs.declared.chain.Chain.{Chain}
 use Rattle.frs_filters.specs.Filters.{is_noted, is_map_noted, given_if, is_committed, with_commit, is_unnamed, with_named, is_undeleted, with_deleted, is_placed, with_older, with_replayed}
 use Rattle.frs_filters.specs.Chain.{past_deletes, past_skips, past_transactions, chain_after, HasSeen}
@@ -161,7 +161,7 @@ commits_step commits later lsn tx lowest named Mark h = h
 commits_step commits later lsn tx lowest named Abandon h = h
 
 -- a change passes where it is committed
-commits_decide : (commits : List ℕ) (later : List Numbered) (lsn tx lowest named : ℕ) (a : Action) → is_change a ≡ true → AreCommits commits later → is_committed commits tx a ≡ committed (at_lsn lsn (rec tx lowest named a)) later
+commits_decide : (commits : List ℕ) (later : List Numbered) (lsn tx lowest named : ℕ) (a : Action) → is_change a ≡ true → AreCommits commits later → is_committed commits tx a ≡ is_committed_by (at_lsn lsn (rec tx lowest named a)) later
 commits_decide commits later lsn tx lowest named (Put id key value) t h = ap (λ v. (tx == 0) || v) (h tx)
 commits_decide commits later lsn tx lowest named (Remove id key) t h = ap (λ v. (tx == 0) || v) (h tx)
 commits_decide commits later lsn tx lowest named (Delete id) t h = ap (λ v. (tx == 0) || v) (h tx)
@@ -177,10 +177,10 @@ changed c later lsn tx lowest named a t p cs h =
 -- what is held after one record in front
 held : (c : Chain) (later : List Numbered) (lsn tx lowest named : ℕ) (a : Action) → IsTrue (kind_allows lsn a tx named) → 0 < lsn → AreCommits c.transactions later → HoldsOf c (committed_records later)
     → HoldsOf (flat c (is_committed c.transactions tx a) lsn (rec tx lowest named a)) (committed_records (at_lsn lsn (rec tx lowest named a) ∷ later))
-held c later lsn tx lowest named Begin k p cs h = silent c (committed_records later) (committed (at_lsn lsn (rec tx lowest named Begin)) later) lsn (rec tx lowest named Begin) (eqb-true _ _ (and_parts _ _ k).1) (λ _. refl) refl h
-held c later lsn tx lowest named Commit k p cs h = silent c (committed_records later) (committed (at_lsn lsn (rec tx lowest named Commit)) later) lsn (rec tx lowest named Commit) (eqb-true _ _ (and_parts _ _ k).1) (λ _. refl) refl h
-held c later lsn tx lowest named Mark k p cs h = silent c (committed_records later) (committed (at_lsn lsn (rec tx lowest named Mark)) later) lsn (rec tx lowest named Mark) (eqb-true _ _ (and_parts _ _ k).1) (λ _. refl) refl h
-held c later lsn tx lowest named Abandon k p cs h = silent c (committed_records later) (committed (at_lsn lsn (rec tx lowest named Abandon)) later) lsn (rec tx lowest named Abandon) (eqb-true _ _ (and_parts _ _ k).1) (λ _. refl) refl h
+held c later lsn tx lowest named Begin k p cs h = silent c (committed_records later) (is_committed_by (at_lsn lsn (rec tx lowest named Begin)) later) lsn (rec tx lowest named Begin) (eqb-true _ _ (and_parts _ _ k).1) (λ _. refl) refl h
+held c later lsn tx lowest named Commit k p cs h = silent c (committed_records later) (is_committed_by (at_lsn lsn (rec tx lowest named Commit)) later) lsn (rec tx lowest named Commit) (eqb-true _ _ (and_parts _ _ k).1) (λ _. refl) refl h
+held c later lsn tx lowest named Mark k p cs h = silent c (committed_records later) (is_committed_by (at_lsn lsn (rec tx lowest named Mark)) later) lsn (rec tx lowest named Mark) (eqb-true _ _ (and_parts _ _ k).1) (λ _. refl) refl h
+held c later lsn tx lowest named Abandon k p cs h = silent c (committed_records later) (is_committed_by (at_lsn lsn (rec tx lowest named Abandon)) later) lsn (rec tx lowest named Abandon) (eqb-true _ _ (and_parts _ _ k).1) (λ _. refl) refl h
 held c later lsn tx lowest named (Put id key value) k p cs h = changed c later lsn tx lowest named (Put id key value) refl p cs h
 held c later lsn tx lowest named (Remove id key) k p cs h = changed c later lsn tx lowest named (Remove id key) refl p cs h
 held c later lsn tx lowest named (Delete id) k p cs h = changed c later lsn tx lowest named (Delete id) refl p cs h

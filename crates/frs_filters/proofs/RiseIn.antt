@@ -10,7 +10,7 @@ use Rattle.frs_types.specs.declared.record.Entry.{Entry}
 use Rattle.frs_types.specs.Maps.{Place, same_place}
 use Rattle.frs_types.specs.Records.{Numbered, numbered_records_from}
 use Rattle.frs_types.proofs.OneMoreRecord.{from_entry}
-use Rattle.frs_types.specs.Survivors.{entry_by, committed, committed_records, with_entry, survivors_of, open_begins, is_delete_of}
+use Rattle.frs_types.specs.Survivors.{entry_by, is_committed_by, committed_records, with_entry, survivors_of, open_begins, is_delete_of}
 
 -- ---- numbers that rise, all of them from low on and below high
 
@@ -53,7 +53,7 @@ kept_rise false q later low high least most r = rise_from (q.lsn + 1) low high (
 
 committed_rise : (low high : ℕ) (qs : List Numbered) → RiseIn low high (lsns_of qs) → RiseIn low high (lsns_of (committed_records qs))
 committed_rise low high [] r = tt
-committed_rise low high (q ∷ later) r = kept_rise (committed q later) q (committed_records later) low high r.0 r.1 (committed_rise (q.lsn + 1) high later r.2)
+committed_rise low high (q ∷ later) r = kept_rise (is_committed_by q later) q (committed_records later) low high r.0 r.1 (committed_rise (q.lsn + 1) high later r.2)
 
 -- ---- LSNs of entries
 

@@ -14,7 +14,7 @@ use Rattle.frs_types.specs.declared.lock.Lock.{Lock}
 use Rattle.frs_types.specs.declared.lock.Lock.TheVariants.{OnKey, OnMap}
 use Rattle.frs_types.specs.Locks.{Holder, Holders, holder_at, nobody, do_conflict, same_lock, hinderers, is_hindered_by, with_wait, ring, via, is_reached, waits_for}
 use Rattle.frs_locks.specs.declared.map_locks.MapLocks.{MapLocks}
-use Rattle.frs_locks.specs.declared.locks.TheConstants.{CLIENT_LIMIT}
+use Rattle.frs_types.specs.declared.limits.TheConstants.{CLIENT_LIMIT}
 use Rattle.frs_locks.specs.Answers.{IsRing, IsRingless, least_client}
 use Rattle.frs_locks.specs.Index.{IsIndexOf, AreSoundLocks, NoOther, SaysOf, map_at, is_client, is_against, holds_map, holds_key, holds_some_key, is_on_key_of}
 use Rattle.frs_locks.proofs.NoRing.{holder_same, holder_other, stays_put, ringless_quiet, ringless_wait, filter_in, In, ring_has_via, own_step}

@@ -10,7 +10,7 @@ use Rattle.frs_types.specs.declared.lock.Lock.{Lock}
 use Rattle.frs_types.specs.declared.lock.Lock.TheVariants.{OnKey, OnMap}
 use Rattle.frs_types.specs.Locks.{Holders, nobody, holder_at, same_lock}
 use Rattle.frs_locks.specs.Answers.{IsRingless}
-use Rattle.frs_locks.specs.declared.locks.TheConstants.{CLIENT_LIMIT}
+use Rattle.frs_types.specs.declared.limits.TheConstants.{CLIENT_LIMIT}
 use Rattle.frs_locks.specs.declared.map_locks.MapLocks.{MapLocks}
 
 -- what the index has of the map

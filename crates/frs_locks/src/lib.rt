@@ -9,7 +9,7 @@ mod map_locks;
 mod round;
 mod want;
 
-pub use locks::{CLIENT_LIMIT, Locks};
+pub use locks::Locks;
 pub use want::Want;
 
 #[cfg(test)]

@@ -10,13 +10,10 @@ use crate::index::drop_all;
 use crate::map_locks::{MapLocks, PLACES};
 use crate::round::{leading, leads_at};
 use crate::want::Want;
-use frs_types::{Lock, MapId, NoMemory, Sequence};
+use frs_types::{CLIENT_LIMIT, Lock, MapId, NoMemory, Sequence};
 use std::alloc::Global;
 use std::collections::BTreeMap;
 use std::marker::Model;
-
-/// The most clients.
-pub const CLIENT_LIMIT: u32 = 64;
 
 /// Who holds which lock, and who waits for which. Contracts see it as the clients' holders; that of client 0, which
 /// holds nothing, stands first.

@@ -3,8 +3,7 @@ ghost use Rattle.std.specs.Prelude.{◌≡◌, ◌<◌, ◌==◌, ◌||◌, ℕ,
 ghost use Rattle.std.specs.Str.{bytes_eq};
 ghost use Rattle.frs_locks.specs.Index.{SaysSame, holds_key, holds_some_key};
 
-use crate::locks::CLIENT_LIMIT;
-use frs_types::{Key, NoMemory};
+use frs_types::{CLIENT_LIMIT, Key, NoMemory};
 use std::alloc::Global;
 use std::collections::BTreeMap;
 

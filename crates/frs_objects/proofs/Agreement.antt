@@ -11,7 +11,7 @@ use Rattle.frs_types.specs.declared.record.Entry.{Entry}
 use Rattle.frs_types.specs.Maps.{Place, at, place_cmp, same_place}
 use Rattle.frs_types.specs.Lawful.{StoredValue}
 use Rattle.frs_objects.specs.declared.places.Slot.{Slot}
-use Rattle.frs_objects.specs.Slots.{kept_by, settled, emptied}
+use Rattle.frs_objects.specs.Slots.{kept_by, slot_if_used, slot_without_entry}
 use Rattle.frs_objects.specs.Objects.{stored_by, entry_of, entry_at}
 use Rattle.frs_objects.specs.Index.{Rows, row_at, entry_in, entry_under, table_by, lsn_in, wanted_in, is_blank, demand, Agrees, is_lsn, wanted_more}
 use Rattle.frs_objects.proofs.SlotAt.{settled_some}
@@ -27,46 +27,46 @@ lsn_kept : (s : Slot) (l : Option ℕ) → s.lsn ≡ l → lsn_in (kept_by l s) 
 lsn_kept s (Some n) e = e
 lsn_kept s None e = elim (nat_lt 0 s.wanted) as (λ b. lsn_in (if b then Some s else None) ≡ None) [ true ↦ e | false ↦ refl ]
 
-pub lsn_settled : (s : Slot) → lsn_in (settled s) ≡ s.lsn
+pub lsn_settled : (s : Slot) → lsn_in (slot_if_used s) ≡ s.lsn
 lsn_settled s = lsn_kept s s.lsn refl
 
 wanted_kept : (s : Slot) (l : Option ℕ) → wanted_in (kept_by l s) ≡ s.wanted
 wanted_kept s (Some n) = refl
 wanted_kept s None = elim (nat_lt 0 s.wanted) as (λ b. nat_lt 0 s.wanted ≡ b → wanted_in (if b then Some s else None) ≡ s.wanted) [ true ↦ λ e. refl | false ↦ λ e. grind (arith, nat_tests) ] refl
 
-pub wanted_settled : (s : Slot) → wanted_in (settled s) ≡ s.wanted
+pub wanted_settled : (s : Slot) → wanted_in (slot_if_used s) ≡ s.wanted
 wanted_settled s = wanted_kept s s.lsn
 
 the_slot : (s t : Slot) → Some s ≡ Some t → s ≡ t
 the_slot s t e = cc
 
-kept_again : (s t : Slot) (l : Option ℕ) → s.lsn ≡ l → kept_by l s ≡ Some t → settled t ≡ Some t
-kept_again s t (Some n) e is = subst (λ (v : Slot). settled v ≡ Some v) (the_slot s t is) (ap (λ l. kept_by l s) e)
-kept_again s t None e is = elim (nat_lt 0 s.wanted) as (λ b. nat_lt 0 s.wanted ≡ b → (if b then Some s else None) ≡ Some t → settled t ≡ Some t) [
-  | true ↦ λ w is. subst (λ (v : Slot). settled v ≡ Some v) (the_slot s t is) (ap (λ l. kept_by l s) e ∙ ap (λ b. if b then Some s else None) w)
+kept_again : (s t : Slot) (l : Option ℕ) → s.lsn ≡ l → kept_by l s ≡ Some t → slot_if_used t ≡ Some t
+kept_again s t (Some n) e is = subst (λ (v : Slot). slot_if_used v ≡ Some v) (the_slot s t is) (ap (λ l. kept_by l s) e)
+kept_again s t None e is = elim (nat_lt 0 s.wanted) as (λ b. nat_lt 0 s.wanted ≡ b → (if b then Some s else None) ≡ Some t → slot_if_used t ≡ Some t) [
+  | true ↦ λ w is. subst (λ (v : Slot). slot_if_used v ≡ Some v) (the_slot s t is) (ap (λ l. kept_by l s) e ∙ ap (λ b. if b then Some s else None) w)
   | false ↦ λ w is. absurd (true≢false (ap is_some (sym is)))
 ] refl is
 
-pub settled_again : (s t : Slot) → settled s ≡ Some t → settled t ≡ Some t
+pub settled_again : (s t : Slot) → slot_if_used s ≡ Some t → slot_if_used t ≡ Some t
 settled_again s t is = kept_again s t s.lsn refl is
 
-lsn_emptied : (o : Option Slot) → lsn_in (emptied o) ≡ None
+lsn_emptied : (o : Option Slot) → lsn_in (slot_without_entry o) ≡ None
 lsn_emptied None = refl
 lsn_emptied (Some s) = lsn_settled (record { lsn = None; wanted = s.wanted })
 
-wanted_emptied : (o : Option Slot) → wanted_in (emptied o) ≡ wanted_in o
+wanted_emptied : (o : Option Slot) → wanted_in (slot_without_entry o) ≡ wanted_in o
 wanted_emptied None = refl
 wanted_emptied (Some s) = wanted_settled (record { lsn = None; wanted = s.wanted })
 
-emptied_again : (o : Option Slot) (t : Slot) → emptied o ≡ Some t → settled t ≡ Some t
+emptied_again : (o : Option Slot) (t : Slot) → slot_without_entry o ≡ Some t → slot_if_used t ≡ Some t
 emptied_again None t is = absurd (true≢false (ap is_some (sym is)))
 emptied_again (Some s) t is = settled_again (record { lsn = None; wanted = s.wanted }) t is
 
-settled_more : (o : Option Slot) → settled (wanted_more o) ≡ Some (wanted_more o)
+settled_more : (o : Option Slot) → slot_if_used (wanted_more o) ≡ Some (wanted_more o)
 settled_more o = settled_some (wanted_more o) (λ _ z. omega arith)
 
-the_settled : (s t : Slot) → settled s ≡ Some s → Some s ≡ Some t → settled t ≡ Some t
-the_settled s t is e = subst (λ (v : Slot). settled v ≡ Some v) (the_slot s t e) is
+the_settled : (s t : Slot) → slot_if_used s ≡ Some s → Some s ≡ Some t → slot_if_used t ≡ Some t
+the_settled s t is e = subst (λ (v : Slot). slot_if_used v ≡ Some v) (the_slot s t e) is
 
 -- ---- what is shown, once slots and rows agree
 
@@ -102,7 +102,7 @@ module _ (S S' : Place → Option Slot) (rows rows' : Rows) (p : Place) (l : ℕ
     ordered = ordered;
     owned = λ n e is. let o = a.owned n e (reserved_same n e is) in (o.0, reserved_lsns (e.id, e.key) ∙ o.1);
     found = λ q n is. let f = a.found q n (sym (reserved_lsns q) ∙ is) in (f.0, reserved_stays n f.0 f.1, f.2);
-    needed = λ q s is. by_place p q (λ b. cond b (Some (wanted_more (S p))) (S q) ≡ Some s → settled s ≡ Some s) (λ _ h. the_settled (wanted_more (S p)) s (settled_more (S p)) h) (λ _ h. a.needed q s h) (sym (slots q) ∙ is);
+    needed = λ q s is. by_place p q (λ b. cond b (Some (wanted_more (S p))) (S q) ≡ Some s → slot_if_used s ≡ Some s) (λ _ h. the_settled (wanted_more (S p)) s (settled_more (S p)) h) (λ _ h. a.needed q s h) (sym (slots q) ∙ is);
     counted = λ q. ap wanted_in (slots q) ∙ by_place p q (λ b. wanted_in (cond b (Some (wanted_more (S p))) (S q)) ≡ (if b then demand ws q + 1 else demand ws q)) (λ e. ap (λ v. wanted_in (S v) + 1) e ∙ ap (λ v. v + 1) (a.counted q)) (λ _. a.counted q);
     blank = λ n. ap is_blank (written n) ∙ by_number l n (λ b. is_blank (cond b (Some None) (row_at rows n)) ≡ (b || list_any (λ (x : Place × ℕ). x.1 == n) ws)) (λ _. refl) (λ _. a.blank n);
     own = (sym (a.blank l) ∙ ap is_blank new, a.own);
@@ -116,10 +116,10 @@ module _ (S S' : Place → Option Slot) (rows rows' : Rows) (p : Place) (l : ℕ
 module _ (S S' : Place → Option Slot) (rows rows' : Rows) (p : Place) (l w : ℕ) (ws : List (Place × ℕ)) (a : Agrees S rows ((p, l) ∷ ws))
     (ordered : IsStrictlySortedBy nat_cmp (keys_of rows'))
     (less : w + 1 ≡ wanted_in (S p))
-    (slots : (q : Place) → S' q ≡ cond (same_place p q) (settled (record { lsn = lsn_in (S p); wanted = w })) (S q))
+    (slots : (q : Place) → S' q ≡ cond (same_place p q) (slot_if_used (record { lsn = lsn_in (S p); wanted = w })) (S q))
     (written : (n : ℕ) → row_at rows' n ≡ cond (l == n) None (row_at rows n)) where
   released_lsns : (q : Place) → lsn_in (S' q) ≡ lsn_in (S q)
-  released_lsns q = ap lsn_in (slots q) ∙ by_place p q (λ b. lsn_in (cond b (settled (record { lsn = lsn_in (S p); wanted = w })) (S q)) ≡ lsn_in (S q)) (λ e. lsn_settled (record { lsn = lsn_in (S p); wanted = w }) ∙ ap (λ v. lsn_in (S v)) e) (λ _. refl)
+  released_lsns q = ap lsn_in (slots q) ∙ by_place p q (λ b. lsn_in (cond b (slot_if_used (record { lsn = lsn_in (S p); wanted = w })) (S q)) ≡ lsn_in (S q)) (λ e. lsn_settled (record { lsn = lsn_in (S p); wanted = w }) ∙ ap (λ v. lsn_in (S v)) e) (λ _. refl)
 
   was_blank : is_blank (row_at rows l) ≡ true
   was_blank = a.blank l ∙ ap (λ b. b || list_any (λ (x : Place × ℕ). x.1 == l) ws) ((unsigned_Decides l l).1 refl)
@@ -144,8 +144,8 @@ module _ (S S' : Place → Option Slot) (rows rows' : Rows) (p : Place) (l w : �
     ordered = ordered;
     owned = λ n e is. let o = a.owned n e (released_same n e is) in (o.0, released_lsns (e.id, e.key) ∙ o.1);
     found = λ q n is. let f = a.found q n (sym (released_lsns q) ∙ is) in (f.0, released_stays n f.0 f.1, f.2);
-    needed = λ q s is. by_place p q (λ b. cond b (settled (record { lsn = lsn_in (S p); wanted = w })) (S q) ≡ Some s → settled s ≡ Some s) (λ _ h. settled_again (record { lsn = lsn_in (S p); wanted = w }) s h) (λ _ h. a.needed q s h) (sym (slots q) ∙ is);
-    counted = λ q. ap wanted_in (slots q) ∙ by_place p q (λ b. wanted_in (cond b (settled (record { lsn = lsn_in (S p); wanted = w })) (S q)) ≡ demand ws q) (λ e. wanted_settled (record { lsn = lsn_in (S p); wanted = w }) ∙ demanded ∙ ap (demand ws) e) (demanded_elsewhere q);
+    needed = λ q s is. by_place p q (λ b. cond b (slot_if_used (record { lsn = lsn_in (S p); wanted = w })) (S q) ≡ Some s → slot_if_used s ≡ Some s) (λ _ h. settled_again (record { lsn = lsn_in (S p); wanted = w }) s h) (λ _ h. a.needed q s h) (sym (slots q) ∙ is);
+    counted = λ q. ap wanted_in (slots q) ∙ by_place p q (λ b. wanted_in (cond b (slot_if_used (record { lsn = lsn_in (S p); wanted = w })) (S q)) ≡ demand ws q) (λ e. wanted_settled (record { lsn = lsn_in (S p); wanted = w }) ∙ demanded ∙ ap (demand ws) e) (demanded_elsewhere q);
     blank = λ n. ap is_blank (written n) ∙ by_number l n (λ b. is_blank (cond b None (row_at rows n)) ≡ list_any (λ (x : Place × ℕ). x.1 == n) ws) (λ e. sym (ap (λ v. list_any (λ (x : Place × ℕ). x.1 == v) ws) (sym e) ∙ a.own.0)) (blank_elsewhere n);
     own = a.own.1;
   }
@@ -244,7 +244,7 @@ module _ (S S' : Place → Option Slot) (rows rows' : Rows) (x : Entry) (w : ℕ
     ordered = ordered;
     owned = filled_owned;
     found = filled_found;
-    needed = λ q s is. by_place (x.id, x.key) q (λ b. cond b (Some (record { lsn = Some x.lsn; wanted = w })) (S q) ≡ Some s → settled s ≡ Some s) (λ _ h. the_settled (record { lsn = Some x.lsn; wanted = w }) s refl h) (λ _ h. a.needed q s h) (sym (slots q) ∙ is);
+    needed = λ q s is. by_place (x.id, x.key) q (λ b. cond b (Some (record { lsn = Some x.lsn; wanted = w })) (S q) ≡ Some s → slot_if_used s ≡ Some s) (λ _ h. the_settled (record { lsn = Some x.lsn; wanted = w }) s refl h) (λ _ h. a.needed q s h) (sym (slots q) ∙ is);
     counted = λ q. ap wanted_in (slots q) ∙ by_place (x.id, x.key) q (λ b. wanted_in (cond b (Some (record { lsn = Some x.lsn; wanted = w })) (S q)) ≡ demand ws q) (λ e. filled_demanded ∙ ap (demand ws) e) (λ apart. a.counted q ∙ ap (λ b. if b then demand ws q + 1 else demand ws q) apart);
     blank = filled_blank;
     own = a.own.1;
@@ -267,7 +267,7 @@ module _ (S S' : Place → Option Slot) (rows rows' : Rows) (x : Entry) (w : ℕ
 
 module _ (S S' : Place → Option Slot) (rows rows' : Rows) (P : Place → Bool) (gone : ℕ → Bool) (ws : List (Place × ℕ)) (a : Agrees S rows ws)
     (ordered : IsStrictlySortedBy nat_cmp (keys_of rows'))
-    (slots : (q : Place) → S' q ≡ cond (P q) (emptied (S q)) (S q))
+    (slots : (q : Place) → S' q ≡ cond (P q) (slot_without_entry (S q)) (S q))
     (written : (n : ℕ) → row_at rows' n ≡ cond (gone n) None (row_at rows n))
     (goes : (q : Place) (n : ℕ) → lsn_in (S q) ≡ Some n → gone n ≡ P q)
     (keeps : (n : ℕ) → is_blank (row_at rows n) ≡ true → gone n ≡ false) where
@@ -275,12 +275,12 @@ module _ (S S' : Place → Option Slot) (rows rows' : Rows) (P : Place → Bool)
   taken_owned n e is =
       split (gone n) (λ b. gone n ≡ b → cond b None (row_at rows n) ≡ Some (Some e) → (e.lsn ≡ n) × (lsn_in (S' (e.id, e.key)) ≡ Some n))
       (λ _ _ h. absurd (true≢false (ap is_some (sym h))))
-      (λ _ stays h. let o = a.owned n e h in (o.0, ap lsn_in (slots (e.id, e.key) ∙ ap (λ b. cond b (emptied (S (e.id, e.key))) (S (e.id, e.key))) (sym (goes (e.id, e.key) n o.1) ∙ stays)) ∙ o.1))
+      (λ _ stays h. let o = a.owned n e h in (o.0, ap lsn_in (slots (e.id, e.key) ∙ ap (λ b. cond b (slot_without_entry (S (e.id, e.key))) (S (e.id, e.key))) (sym (goes (e.id, e.key) n o.1) ∙ stays)) ∙ o.1))
       refl (sym (written n) ∙ is)
 
   taken_found : (q : Place) (n : ℕ) → lsn_in (S' q) ≡ Some n → (e : Entry) × (row_at rows' n ≡ Some (Some e)) × ((e.id, e.key) ≡ q)
   taken_found q n is =
-      split (P q) (λ b. P q ≡ b → lsn_in (cond b (emptied (S q)) (S q)) ≡ Some n → (e : Entry) × (row_at rows' n ≡ Some (Some e)) × ((e.id, e.key) ≡ q))
+      split (P q) (λ b. P q ≡ b → lsn_in (cond b (slot_without_entry (S q)) (S q)) ≡ Some n → (e : Entry) × (row_at rows' n ≡ Some (Some e)) × ((e.id, e.key) ≡ q))
       (λ _ _ h. absurd (true≢false (ap is_some (sym h ∙ lsn_emptied (S q)))))
       (λ _ stays h. let f = a.found q n h in (f.0, written n ∙ ap (λ b. cond b None (row_at rows n)) (goes q n h ∙ stays) ∙ f.1, f.2))
       refl (sym (ap lsn_in (slots q)) ∙ is)
@@ -298,8 +298,8 @@ module _ (S S' : Place → Option Slot) (rows rows' : Rows) (P : Place → Bool)
     ordered = ordered;
     owned = taken_owned;
     found = taken_found;
-    needed = λ q s is. split (P q) (λ b. cond b (emptied (S q)) (S q) ≡ Some s → settled s ≡ Some s) (λ _ h. emptied_again (S q) s h) (λ _ h. a.needed q s h) (sym (slots q) ∙ is);
-    counted = λ q. ap wanted_in (slots q) ∙ split (P q) (λ b. wanted_in (cond b (emptied (S q)) (S q)) ≡ demand ws q) (λ _. wanted_emptied (S q) ∙ a.counted q) (λ _. a.counted q);
+    needed = λ q s is. split (P q) (λ b. cond b (slot_without_entry (S q)) (S q) ≡ Some s → slot_if_used s ≡ Some s) (λ _ h. emptied_again (S q) s h) (λ _ h. a.needed q s h) (sym (slots q) ∙ is);
+    counted = λ q. ap wanted_in (slots q) ∙ split (P q) (λ b. wanted_in (cond b (slot_without_entry (S q)) (S q)) ≡ demand ws q) (λ _. wanted_emptied (S q) ∙ a.counted q) (λ _. a.counted q);
     blank = λ n. taken_blank n ∙ a.blank n;
     own = a.own;
   }
@@ -312,7 +312,7 @@ module _ (S S' : Place → Option Slot) (rows rows' : Rows) (P : Place → Bool)
   taken_shown =
       same_tables (table_by rows') (where_key place_cmp (λ q. not (P q)) (table_by rows)) (IsTable-shown rows') (IsTable-where (λ q. not (P q)) (table_by rows) (IsTable-shown rows))
       (λ q. at-shown Agrees-taken q ∙ ap (λ s. stored_under rows' (lsn_in s)) (slots q)
-      ∙ split (P q) (λ b. P q ≡ b → stored_under rows' (lsn_in (cond b (emptied (S q)) (S q))) ≡ cond (not b) (at (table_by rows) q) None)
+      ∙ split (P q) (λ b. P q ≡ b → stored_under rows' (lsn_in (cond b (slot_without_entry (S q)) (S q))) ≡ cond (not b) (at (table_by rows) q) None)
       (λ _ _. ap (stored_under rows') (lsn_emptied (S q)))
       (λ _ stays. taken_under q (lsn_in (S q)) stays refl ∙ sym (at-shown a q))
       refl
@@ -386,12 +386,12 @@ module _ (S : Place → Option Slot) (rows : Rows) (ws : List (Place × ℕ)) (a
   entry_lost n is none = let f = a.found p n is in absurd (true≢false (ap is_some (sym f.1 ∙ sym none)))
 
 -- where a place has no slot, it has nothing to take out
-pub nothing_to_take : (S : Place → Option Slot) (p q : Place) → S p ≡ None → S q ≡ cond (same_place p q) (emptied (S q)) (S q)
-nothing_to_take S p q none = by_place p q (λ b. S q ≡ cond b (emptied (S q)) (S q)) (λ e. let h : S q ≡ None = ap S (sym e) ∙ none in h ∙ sym (ap emptied h)) (λ _. refl)
+pub nothing_to_take : (S : Place → Option Slot) (p q : Place) → S p ≡ None → S q ≡ cond (same_place p q) (slot_without_entry (S q)) (S q)
+nothing_to_take S p q none = by_place p q (λ b. S q ≡ cond b (slot_without_entry (S q)) (S q)) (λ e. let h : S q ≡ None = ap S (sym e) ∙ none in h ∙ sym (ap slot_without_entry h)) (λ _. refl)
 
 -- the slot of one place without its entry
-pub emptied_here : (S S' : Place → Option Slot) (p : Place) (s : Slot) → Some s ≡ S p → ((q : Place) → S' q ≡ cond (same_place p q) (settled (record { lsn = None; wanted = s.wanted })) (S q)) → (q : Place) → S' q ≡ cond (same_place p q) (emptied (S q)) (S q)
-emptied_here S S' p s is h q = h q ∙ by_place p q (λ b. cond b (settled (record { lsn = None; wanted = s.wanted })) (S q) ≡ cond b (emptied (S q)) (S q)) (λ e. ap emptied (is ∙ ap S e)) (λ _. refl)
+pub emptied_here : (S S' : Place → Option Slot) (p : Place) (s : Slot) → Some s ≡ S p → ((q : Place) → S' q ≡ cond (same_place p q) (slot_if_used (record { lsn = None; wanted = s.wanted })) (S q)) → (q : Place) → S' q ≡ cond (same_place p q) (slot_without_entry (S q)) (S q)
+emptied_here S S' p s is h q = h q ∙ by_place p q (λ b. cond b (slot_if_used (record { lsn = None; wanted = s.wanted })) (S q) ≡ cond b (slot_without_entry (S q)) (S q)) (λ e. ap slot_without_entry (is ∙ ap S e)) (λ _. refl)
 
 -- the entry under a place's LSN has that place, and is what is shown there
 module _ (S : Place → Option Slot) (rows : Rows) (ws : List (Place × ℕ)) (a : Agrees S rows ws) (p : Place) where

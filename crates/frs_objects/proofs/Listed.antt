@@ -13,7 +13,7 @@ use Rattle.std.proofs.lemmas.Map.Entries.{none_past_head}
 use Rattle.std.proofs.lemmas.Map.Keys.{IsDistinct-from_sorted, IsDistinct-tail}
 use Rattle.frs_types.specs.Maps.{Place}
 use Rattle.frs_objects.specs.declared.places.Slot.{Slot}
-use Rattle.frs_objects.specs.Slots.{slot_in, slot_at, emptied}
+use Rattle.frs_objects.specs.Slots.{slot_in, slot_at, slot_without_entry}
 use Rattle.frs_objects.specs.Index.{Rows, row_at, lsn_in, is_lsn, is_blank, Agrees}
 use Rattle.frs_objects.proofs.SlotAt.{by_bytes, at_bytes, by_equal}
 use Rattle.frs_objects.proofs.Agreement.{split, lsn_from, one_place_by}
@@ -90,8 +90,8 @@ module _ (maps : BTreeMap (List ℕ) (BTreeMap (List ℕ) Slot)) (id : List ℕ)
   none_at : (q : Place) → id ≡ q.0 → slot_at maps q ≡ None
   none_at q same = ap (λ v. slot_in v q.1) (sym (none ∙ ap (by_bytes maps) same))
 
-  pub none_to_empty : (q : Place) → slot_at maps q ≡ cond (bytes_eq id q.0) (emptied (slot_at maps q)) (slot_at maps q)
-  none_to_empty q = by_equal id q.0 (λ b. slot_at maps q ≡ cond b (emptied (slot_at maps q)) (slot_at maps q)) (λ e. none_at q e ∙ sym (ap emptied (none_at q e))) (λ _. refl)
+  pub none_to_empty : (q : Place) → slot_at maps q ≡ cond (bytes_eq id q.0) (slot_without_entry (slot_at maps q)) (slot_at maps q)
+  none_to_empty q = by_equal id q.0 (λ b. slot_at maps q ≡ cond b (slot_without_entry (slot_at maps q)) (slot_at maps q)) (λ e. none_at q e ∙ sym (ap slot_without_entry (none_at q e))) (λ _. refl)
 
   pub none_goes : (q : Place) (n : ℕ) → lsn_in (slot_at maps q) ≡ Some n → false ≡ bytes_eq id q.0
   none_goes q n under = by_equal id q.0 (λ b. false ≡ b) (λ e. absurd (true≢false (ap is_some (sym under ∙ ap lsn_in (none_at q e))))) (λ _. refl)

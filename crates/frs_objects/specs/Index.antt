@@ -13,7 +13,7 @@ use Rattle.frs_objects.specs.declared.op.Op.{Op}
 use Rattle.frs_objects.specs.declared.op.Op.TheVariants.{Put}
 use Rattle.frs_objects.specs.declared.places.Slot.{Slot}
 use Rattle.frs_objects.specs.declared.index.Index.{Index}
-use Rattle.frs_objects.specs.Slots.{slot_at, settled}
+use Rattle.frs_objects.specs.Slots.{slot_at, slot_if_used}
 use Rattle.frs_objects.specs.Objects.{stored_by}
 
 -- entries by LSN; None stands where an LSN is kept for an entry to come
@@ -73,7 +73,7 @@ pub record Agrees (slots : Place → Option Slot) (rows : Rows) (puts : List (Pl
   pub found : (p : Place) (n : ℕ) → lsn_in (slots p) ≡ Some n → (e : Entry) × (row_at rows n ≡ Some (Some e))
       × ((e.id, e.key) ≡ p)
   -- each place has an entry, or puts need it
-  pub needed : (p : Place) (s : Slot) → slots p ≡ Some s → settled s ≡ Some s
+  pub needed : (p : Place) (s : Slot) → slots p ≡ Some s → slot_if_used s ≡ Some s
   pub counted : (p : Place) → wanted_in (slots p) ≡ demand puts p
   -- what the LSNs of the puts are kept for is to come
   pub blank : (n : ℕ) → is_blank (row_at rows n) ≡ list_any (λ (x : Place × ℕ). x.1 == n) puts

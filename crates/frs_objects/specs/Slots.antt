@@ -20,10 +20,10 @@ abbrev pub kept_by : Option ℕ → Slot → Option Slot
 kept_by (Some n) s = Some s
 kept_by None s = if nat_lt 0 s.wanted then Some s else None
 
-abbrev pub settled : Slot → Option Slot
-settled s = kept_by s.lsn s
+abbrev pub slot_if_used : Slot → Option Slot
+slot_if_used s = kept_by s.lsn s
 
 -- a slot without its entry
-abbrev pub emptied : Option Slot → Option Slot
-emptied None = None
-emptied (Some s) = settled (record { lsn = None; wanted = s.wanted })
+abbrev pub slot_without_entry : Option Slot → Option Slot
+slot_without_entry None = None
+slot_without_entry (Some s) = slot_if_used (record { lsn = None; wanted = s.wanted })

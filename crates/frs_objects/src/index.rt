@@ -10,7 +10,7 @@ ghost use Rattle.std.specs.FinMap.Entries.{put, where_key};
 ghost use Rattle.frs_types.specs.Maps.{Place, IsTable, place_cmp, same_place, at, table_after, table_after_all};
 ghost use Rattle.frs_types.specs.Lawful.{StoredValue};
 ghost use Rattle.frs_objects.specs.Slots.{slot_at};
-ghost use Rattle.frs_objects.specs.declared.places.Slot.{Slot as Held};
+ghost use Rattle.frs_objects.specs.declared.places.Slot.{Slot as KeySlot};
 ghost use Rattle.frs_objects.specs.Objects.{stored_by, entry_at, oldest_entry, least_lsn, table_lsns, lsn_of_place, with_lsn, with_put, puts_among, put_lsns, change_by, AreNew};
 ghost use Rattle.frs_objects.specs.Index.{row_at, entry_under, HasRoomFor, is_blank, is_lsn, wanted_in, IsIndex, KeepsFor, table_in};
 
@@ -389,7 +389,7 @@ impl Index {
 // Takes the entries of the keys of a map out.
 fn remove_all(entries: &mut BTreeMap<u64, Option<Entry>>, map: &BTreeMap<Key, Slot>)
     ensures rows { (n : ℕ) → row_at entries.new.entries n
-        ≡ cond (list_any (λ (e : List ℕ × Held). is_lsn e.1.lsn n) map.now.entries) None
+        ≡ cond (list_any (λ (e : List ℕ × KeySlot). is_lsn e.1.lsn n) map.now.entries) None
         (row_at entries.old.entries n) }
     ensures ordered { IsStrictlySortedBy nat_cmp (keys_of entries.old.entries)
         → IsStrictlySortedBy nat_cmp (keys_of entries.new.entries) }

@@ -5,7 +5,7 @@ ghost use Rattle.std.specs.BTreeMap.{get};
 ghost use Rattle.std.specs.Ordering.{nat_cmp};
 ghost use Rattle.std.specs.Cmp.Lexicographic.{slice_cmp};
 ghost use Rattle.frs_types.specs.Maps.{Place, same_place};
-ghost use Rattle.frs_objects.specs.Slots.{slot_at, settled, emptied};
+ghost use Rattle.frs_objects.specs.Slots.{slot_at, slot_if_used, slot_without_entry};
 ghost use Rattle.frs_objects.specs.Index.{wanted_in, wanted_more};
 
 use frs_types::{Key, MapId, NoMemory};
@@ -102,7 +102,7 @@ impl Places {
     pub fn settle(&mut self, id: &MapId, key: &Key, slot: Slot)
         requires { IsSome (slot_at self.old.maps (id.now, key.now)) }
         ensures { (q : Place) → slot_at self.new.maps q
-            ≡ cond (same_place (id.now, key.now) q) (settled slot) (slot_at self.old.maps q) }
+            ≡ cond (same_place (id.now, key.now) q) (slot_if_used slot) (slot_at self.old.maps q) }
     {
         let Some(map) = self.maps.get_mut(id) else {
             return;
@@ -116,7 +116,7 @@ impl Places {
     /// Takes the entries of a map out, and the places that nothing needs.
     pub fn empty(&mut self, id: &MapId)
         ensures { (q : Place) → slot_at self.new.maps q
-            ≡ cond (bytes_eq id.now q.0) (emptied (slot_at self.old.maps q))
+            ≡ cond (bytes_eq id.now q.0) (slot_without_entry (slot_at self.old.maps q))
             (slot_at self.old.maps q) }
     {
         let Some(map) = self.maps.get_mut(id) else {
@@ -133,7 +133,7 @@ impl Places {
 fn settle_key(map: &mut BTreeMap<Key, Slot>, key: &Key, slot: Slot)
     requires { IsSome (get (slice_cmp nat_cmp) map.old key.now) }
     ensures { (k : List ℕ) → get (slice_cmp nat_cmp) map.new k
-        ≡ cond (bytes_eq key.now k) (settled slot) (get (slice_cmp nat_cmp) map.old k) }
+        ≡ cond (bytes_eq key.now k) (slot_if_used slot) (get (slice_cmp nat_cmp) map.old k) }
 {
     if slot.lsn.is_none() && slot.wanted == 0 {
         map.remove(key);
@@ -147,7 +147,7 @@ fn settle_key(map: &mut BTreeMap<Key, Slot>, key: &Key, slot: Slot)
 // Takes the entries of all keys out, and the keys that nothing needs.
 fn empty_keys(map: &mut BTreeMap<Key, Slot>)
     ensures { (k : List ℕ) → get (slice_cmp nat_cmp) map.new k
-        ≡ emptied (get (slice_cmp nat_cmp) map.old k) }
+        ≡ slot_without_entry (get (slice_cmp nat_cmp) map.old k) }
 {
     map.retain(|_, slot| {
         slot.lsn = None;

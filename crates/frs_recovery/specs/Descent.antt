@@ -37,8 +37,8 @@ IsFileFault file Disk = Unit {0}
 IsFileFault file Memory = Unit {0}
 IsFileFault file fault = (why : ScanFault) × IsRefused file why × (refusal_of file.0 why ≡ Some fault)
 
--- The records of the segment were read, in front of these; where the disk doesn't tell the file, those of a segment whose
--- chunks stand at the same places.
+-- The records of the segment were read, in front of these; where the disk doesn't tell the file, those of a segment
+-- whose chunks stand at the same places.
 abbrev pub ReadsSegment : Bool → WholeSegment → List Record → BackwardReader → Type 0
 ReadsSegment tells s rs back =
     (t : WholeSegment) × IsMeant t × (places_of_segment t ≡ places_of_segment s) × (IsTrue tells → t ≡ s)
@@ -50,7 +50,8 @@ IsOutsideFault Disk = Unit {0}
 IsOutsideFault Memory = Unit {0}
 IsOutsideFault fault = ⊥
 
--- how it is told that a chunk wasn't read: the fault is the disk's or memory's, or the chunk isn't where a scan has told
+-- how it is told that a chunk wasn't read: the fault is the disk's or memory's, or the chunk isn't where a scan has
+-- told
 abbrev pub chunk_fault : ℕ → ℕ → ScanFault → RecoverFault
 chunk_fault number offset scan.Disk = Disk
 chunk_fault number offset scan.Memory = Memory

@@ -1,4 +1,5 @@
--- What is wrong first with the files of a store, from the one with the greatest number down. A relation on whole images.
+-- What is wrong first with the files of a store, from the one with the greatest number down. A relation on whole
+-- images.
 use Rattle.std.specs.Prelude.{◌≡◌, ◌⊎◌, ℕ, ◌-◌, ◌<◌, All, Bool, true, not, ◌==◌, nat_lt, List, [], ◌∷◌, ◌++◌, IsTrue, Option, Some, None}
 use Rattle.std.specs.FinMap.Entries.{is_sorted}
 use Rattle.std.specs.Ordering.{nat_cmp}

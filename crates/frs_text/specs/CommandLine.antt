@@ -2,7 +2,8 @@
 use Rattle.std.specs.Prelude.{◌≡◌, ℕ, List, [], ◌∷◌, Option, Some, None, Result, Ok, Err, find, if◌then◌else◌, codes, decimal}
 use Rattle.std.specs.List.{range_with_len}
 use Rattle.std.specs.Str.{bytes_eq}
-use Rattle.frs_text.specs.declared.plan.TheConstants.{CLIENT_LIMIT, DEMO_LIMIT}
+use Rattle.frs_types.specs.declared.limits.TheConstants.{CLIENT_LIMIT}
+use Rattle.frs_text.specs.declared.plan.TheConstants.{DEMO_LIMIT}
 use Rattle.frs_text.specs.declared.plan.Plan.{Plan}
 use Rattle.frs_text.specs.declared.plan.Job.{Job}
 use Rattle.frs_text.specs.declared.plan.Job.TheVariants.{Run, Plain}

@@ -2,10 +2,10 @@
 ghost use Rattle.std.specs.Prelude.{◌≡◌, ◌<◌, ◌^◌, ◌∷◌, IfOk};
 ghost use Rattle.frs_text.specs.CommandLine.{number_up_to, demo_end, demo_with, demo_count, demo_of, run_of, plain_plan, job_named, job_of, plan_of, ReadsAs};
 
-use crate::plan::{CLIENT_LIMIT, DEMO_LIMIT, Job, PlainPlan, Plan, RunPlan};
+use crate::plan::{DEMO_LIMIT, Job, PlainPlan, Plan, RunPlan};
 use crate::words_fault::WordsFault;
 use frs_disk::Name;
-use frs_types::{NoMemory, Sequence};
+use frs_types::{CLIENT_LIMIT, NoMemory, Sequence};
 use std::alloc::Global;
 
 // The number from 1 to `most` that is written so.

@@ -25,7 +25,7 @@ pub use history_text::transcript;
 pub use last_line::{LastLine, write_last_line};
 pub use maps_text::dump;
 pub use numbers_text::{stat_of_store, stat_text};
-pub use plan::{CLIENT_LIMIT, DEMO_LIMIT, Job, PlainPlan, Plan, RunPlan};
+pub use plan::{DEMO_LIMIT, Job, PlainPlan, Plan, RunPlan};
 pub use script::parse_script;
 pub use script_fault::ScriptFault;
 pub use unique_history::one_history;

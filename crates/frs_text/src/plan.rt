@@ -2,9 +2,6 @@
 use frs_disk::Name;
 use frs_types::Sequence;
 
-/// The most clients of a run.
-pub const CLIENT_LIMIT: u32 = 64;
-
 /// The most transactions that a client of a demo makes.
 pub const DEMO_LIMIT: u32 = 3_000;
 

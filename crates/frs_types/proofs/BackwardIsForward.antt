@@ -13,7 +13,7 @@ use Rattle.frs_types.specs.declared.record.Entry.{Entry}
 use Rattle.frs_types.specs.Maps.{Place, Change, Table, place_cmp, same_place, at, table_after, table_after_all}
 use Rattle.frs_types.specs.Maps.Change.{Set, Take, Clear}
 use Rattle.frs_types.specs.Records.{Log, Numbered, numbered_records, numbered_records_from, next_lsn, named_lowest, from_lowest}
-use Rattle.frs_types.specs.Survivors.{is_begin, is_ended_by, is_delete_of, entry_by, committed, committed_records, with_entry, survivors_of, survivors, open_begins, least, lowest_of}
+use Rattle.frs_types.specs.Survivors.{is_begin, is_ended_by, is_delete_of, entry_by, is_committed_by, committed_records, with_entry, survivors_of, survivors, open_begins, least, lowest_of}
 use Rattle.frs_types.specs.Lawful.{StoredValue, Open, LogState, changes_of, with_change, after_change, after_by, after_record, state_after, settled_state, table_of, lowest, Lawful}
 use Rattle.frs_types.proofs.Changes.{place_total, place_from_tie, same_place-Decides}
 use Rattle.frs_types.proofs.OneMoreRecord.{records_with_none, is_gone_by, stays, from_entry, entries_left, numbered_joined}
@@ -41,7 +41,7 @@ left_from n [] = tt
 left_from n (r ∷ rs) =
     let later = numbered_records_from (n + 1) rs in
     let rest : EntriesFrom n (entries_left (committed_records later)) = lower n (n + 1) (entries_left (committed_records later)) (omega arith) (left_from (n + 1) rs) in
-    elim (committed (record { lsn = n; what = r }) later) as (λ b. EntriesFrom n (entries_left (cond b (record { lsn = n; what = r } ∷ committed_records later) (committed_records later)))) [
+    elim (is_committed_by (record { lsn = n; what = r }) later) as (λ b. EntriesFrom n (entries_left (cond b (record { lsn = n; what = r } ∷ committed_records later) (committed_records later)))) [
       | true ↦ with_own n (committed_records later) (entry_by n r.action) (entries_left (committed_records later)) (from_entry n r.action) rest
       | false ↦ rest
     ]
@@ -97,7 +97,7 @@ survivors_are_left f n (r ∷ rs) found =
     let q : Numbered = record { lsn = n; what = r } in
     let later = numbered_records_from (n + 1) rs in
     let rest = committed_records later in
-    elim (committed q later) as (λ b. AreFound f (entries_left (cond b (q ∷ rest) rest)) → survivors_of (cond b (q ∷ rest) rest) ≡ entries_left (cond b (q ∷ rest) rest)) [
+    elim (is_committed_by q later) as (λ b. AreFound f (entries_left (cond b (q ∷ rest) rest)) → survivors_of (cond b (q ∷ rest) rest) ≡ entries_left (cond b (q ∷ rest) rest)) [
       | true ↦ λ all.
           ap (with_entry (entry_by n r.action) rest) (survivors_are_left f (n + 1) rs (found_behind f (filter (stays rest) (option_to_list (entry_by n r.action))) (entries_left rest) all))
           ∙ one_survives f n rest (entry_by n r.action) (entries_left rest) (from_entry n r.action) all (left_from (n + 1) rs)
@@ -285,8 +285,8 @@ front_adds low n (r ∷ rs) back le =
     let q : Numbered = record { lsn = n; what = r } in
     let later = numbered_records_from (n + 1) rs ++ back in
     let here : n < low = omega (arith, le) in
-    let kept : (es : List Entry) × (survivors_of (cond (committed q later) (q ∷ committed_records later) (committed_records later)) ≡ es ++ survivors_of (committed_records back)) × AllByRecursion (λ (e : Entry). e.lsn < low) es =
-    elim (committed q later) as (λ b. (es : List Entry) × (survivors_of (cond b (q ∷ committed_records later) (committed_records later)) ≡ es ++ survivors_of (committed_records back)) × AllByRecursion (λ (e : Entry). e.lsn < low) es) [
+    let kept : (es : List Entry) × (survivors_of (cond (is_committed_by q later) (q ∷ committed_records later) (committed_records later)) ≡ es ++ survivors_of (committed_records back)) × AllByRecursion (λ (e : Entry). e.lsn < low) es =
+    elim (is_committed_by q later) as (λ b. (es : List Entry) × (survivors_of (cond b (q ∷ committed_records later) (committed_records later)) ≡ es ++ survivors_of (committed_records back)) × AllByRecursion (λ (e : Entry). e.lsn < low) es) [
       | true ↦
           let one = adds_entry low (entry_by n r.action) (committed_records later) (survivors_of (committed_records later)) (λ e is. let own : e.lsn ≡ n = from_entry n r.action e is in omega arith) in
           (one.more ++ rest.entries, one.are ∙ ap (λ es. one.more ++ es) rest.joined ∙ sym (append_assoc one.more rest.entries (survivors_of (committed_records back))), both_below low one.more rest.entries one.below rest.below)

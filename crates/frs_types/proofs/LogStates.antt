@@ -17,7 +17,7 @@ use Rattle.frs_types.specs.declared.lock.Lock.TheVariants.{OnKey}
 use Rattle.frs_types.specs.Maps.{Place, Maps, Change, Table, place_cmp, same_place, at, table_after, table_after_all, After}
 use Rattle.frs_types.specs.Maps.Change.{Set, Take, Clear}
 use Rattle.frs_types.specs.Records.{is_allowed, kind_allows, has_words, Numbered, numbered_records_from}
-use Rattle.frs_types.specs.Survivors.{entry_by, committed, committed_records}
+use Rattle.frs_types.specs.Survivors.{entry_by, is_committed_by, committed_records}
 use Rattle.frs_types.specs.Lawful.{StoredValue, LogState, plain_maps, changes_of, with_change, after_change, after_by, after_record, state_after, settled_state, lowest, is_stored, is_alone, fits_by, is_lawful, are_lawful, Lawful}
 use Rattle.frs_types.specs.ChangeLists.{plain_change, change_list_by, change_lists_of}
 use Rattle.frs_types.proofs.Changes.{latest, at-table_after, place_total, place_from_tie, same_place-Decides}
@@ -110,7 +110,7 @@ left_made : (n : ℕ) (rs : List Record) (p : Place) (h : StoredValue) → found
 left_made n [] p h found = absurd cc
 left_made n (r ∷ rs) p h found =
     let later = numbered_records_from (n + 1) rs in
-    elim (committed (record { lsn = n; what = r }) later) as (λ b. found_in (entries_left (cond b (record { lsn = n; what = r } ∷ committed_records later) (committed_records later))) p ≡ Some h → IsMadeIn n (r ∷ rs) p h) [
+    elim (is_committed_by (record { lsn = n; what = r }) later) as (λ b. found_in (entries_left (cond b (record { lsn = n; what = r } ∷ committed_records later) (committed_records later))) p ≡ Some h → IsMadeIn n (r ∷ rs) p h) [
       | true ↦ λ one. made_of (entry_by n r.action) n r rs (committed_records later) (entries_left (committed_records later)) p h refl one (left_made (n + 1) rs p h)
       | false ↦ λ behind. later_made n r rs p h (left_made (n + 1) rs p h behind)
     ] found

@@ -8,7 +8,7 @@ use Rattle.frs_types.specs.declared.record.Action.TheVariants.{Put, Remove, Dele
 use Rattle.frs_types.specs.declared.record.Record.{Record}
 use Rattle.frs_types.specs.declared.record.Entry.{Entry}
 use Rattle.frs_types.specs.Records.{Numbered, numbered_records_from}
-use Rattle.frs_types.specs.Survivors.{is_commit, is_compaction, is_begin, is_delete_of, is_ended_by, entry_by, committed, committed_records, open_begins}
+use Rattle.frs_types.specs.Survivors.{is_commit, is_compaction, is_begin, is_delete_of, is_ended_by, entry_by, is_committed_by, committed_records, open_begins}
 
 -- ---- committed records
 
@@ -18,7 +18,7 @@ is_among tx ts = list_any (λ t. t == tx) ts
 
 -- the record is committed, or its transaction is one of these
 abbrev pub counts : List ℕ → Numbered → List Numbered → Bool
-counts ts q later = is_among q.what.tx ts || committed q later
+counts ts q later = is_among q.what.tx ts || is_committed_by q later
 
 -- the records that would be committed if these transactions were, oldest first
 abbrev pub records_with : List ℕ → List Numbered → List Numbered
@@ -27,7 +27,7 @@ records_with ts (q ∷ later) = cond (counts ts q later) (q ∷ records_with ts 
 
 pub records_with_none : (ns : List Numbered) → records_with [] ns ≡ committed_records ns
 records_with_none [] = refl
-records_with_none (q ∷ later) = ap (λ qs. cond (committed q later) (q ∷ qs) qs) (records_with_none later)
+records_with_none (q ∷ later) = ap (λ qs. cond (is_committed_by q later) (q ∷ qs) qs) (records_with_none later)
 
 -- these transactions, and that which the record commits
 abbrev pub with_commit_of : Numbered → List ℕ → List ℕ
@@ -61,7 +61,7 @@ counts-push : (ts : List ℕ) (q r : Numbered) (later : List Numbered) → count
 counts-push ts q r later =
     ap (λ b. is_among q.what.tx ts || (is_compaction q.what.action || (q.what.tx == 0) || b)) (list_any-append (λ (l : Numbered). is_commit l.what.action && (l.what.tx == q.what.tx)) later (r ∷ []))
     ∙ commit_joins (is_among q.what.tx ts) (is_compaction q.what.action) (q.what.tx == 0) (list_any (λ (l : Numbered). is_commit l.what.action && (l.what.tx == q.what.tx)) later) (is_commit r.what.action) (r.what.tx == q.what.tx)
-    ∙ among_if (is_commit r.what.action) q.what.tx r.what.tx ts (committed q later)
+    ∙ among_if (is_commit r.what.action) q.what.tx r.what.tx ts (is_committed_by q later)
 
 pub records_with-push : (ts : List ℕ) (ns : List Numbered) (r : Numbered) → records_with ts (ns ++ r ∷ []) ≡ records_with (with_commit_of r ts) ns ++ one_if (counts ts r []) r
 records_with-push ts [] r = refl

@@ -14,7 +14,7 @@ use Rattle.frs_types.specs.declared.lock.Lock.TheVariants.{OnKey, OnMap}
 use Rattle.frs_types.specs.Maps.{Place, Change, Table, at, table_after, table_after_all}
 use Rattle.frs_types.specs.Maps.Change.{Set, Take, Clear}
 use Rattle.frs_types.specs.Records.{Numbered, numbered_records_from, is_allowed, kind_allows, has_words}
-use Rattle.frs_types.specs.Survivors.{is_commit, is_compaction, is_begin, is_ended_by, committed, open_begins}
+use Rattle.frs_types.specs.Survivors.{is_commit, is_compaction, is_begin, is_ended_by, is_committed_by, open_begins}
 use Rattle.frs_types.specs.Lawful.{StoredValue, Open, LogState, is_open_tx, changes_of, with_change, without_transaction, after_change, after_by, after_record, state_after, lowest, named_at, lock_of, is_alone, has_tx, is_stored, fits_by, is_lawful, are_lawful, settled_state}
 use Rattle.frs_types.proofs.Changes.{touches, given, latest, latest-append, latest_none, latest_of, latest_alike, at-table_after, at-table_after_all, same_place-Decides}
 use Rattle.frs_types.proofs.OneMoreRecord.{is_among, counts, records_with, with_commit_of, one_if, records_with-push, entries_left, left_by, entries_left-push, open_begins-push}
@@ -220,7 +220,7 @@ module _ (s : LogState) (ns : List Numbered) (r : Record) (read : IsRead s ns) w
           (holds_record (seen s ts) (seen now ts) (entries_left (records_with ts ns)) behind x read.next (read.reads ts (each_live s now now_live ts live)) makes (now_named ts) (now_seen ts));
     }
       where
-        commit_nothing : (is_compaction r.action || (r.tx == 0)) ≡ true → committed behind [] ≡ true
+        commit_nothing : (is_compaction r.action || (r.tx == 0)) ≡ true → is_committed_by behind [] ≡ true
         commit_nothing is = elim (is_compaction r.action) as (λ b. (b || (r.tx == 0)) ≡ true → (b || (r.tx == 0) || false) ≡ true) [ true ↦ λ _. refl | false ↦ λ outside. or_false (r.tx == 0) ∙ outside ] is
 
   -- ---- a change in an active transaction
@@ -262,7 +262,7 @@ module _ (s : LogState) (ns : List Numbered) (r : Record) (read : IsRead s ns) w
 
     not_counted : (ts : List ℕ) (b : Bool) → is_among r.tx ts ≡ b → counts ts behind [] ≡ b
     not_counted ts b is =
-        ap (λ c. c || committed behind []) is
+        ap (λ c. c || is_committed_by behind []) is
         ∙ ap (λ c. b || c) (elim (is_compaction r.action) as (λ c. (c || (r.tx == 0)) ≡ false → (c || (r.tx == 0) || false) ≡ false) [ true ↦ λ never. never | false ↦ λ outside. or_false (r.tx == 0) ∙ outside ] later)
         ∙ or_false b
 

@@ -43,15 +43,15 @@ entry_by n other = None
 -- ---- committed records
 
 -- It is a compaction, or outside a transaction, or a commit record of its transaction stands after it.
-abbrev pub committed : Numbered → List Numbered → Bool
-committed q later =
+abbrev pub is_committed_by : Numbered → List Numbered → Bool
+is_committed_by q later =
     is_compaction q.what.action || (q.what.tx == 0) || list_any
     (λ (l : Numbered). is_commit l.what.action && (l.what.tx == q.what.tx)) later
 
 -- the committed records among these, oldest first
 abbrev pub committed_records : List Numbered → List Numbered
 committed_records [] = []
-committed_records (q ∷ later) = if committed q later then q ∷ committed_records later else committed_records later
+committed_records (q ∷ later) = if is_committed_by q later then q ∷ committed_records later else committed_records later
 
 -- ---- survivors
 

@@ -11,7 +11,7 @@ mod sequence;
 mod turn;
 mod word;
 
-pub use limits::{ID_LIMIT, KEY_LIMIT, NUMBER_LIMIT, VALUE_LIMIT};
+pub use limits::{CLIENT_LIMIT, ID_LIMIT, KEY_LIMIT, NUMBER_LIMIT, VALUE_LIMIT};
 pub use lock::Lock;
 pub use memory::NoMemory;
 pub use record::{Action, Entry, Record};

@@ -6,6 +6,7 @@ use Rattle.std.proofs.lemmas.List.{append-nil, map-append, take_all, length-repl
 use Rattle.std.proofs.lemmas.List.Elements.{All-contains, All-replicate}
 use Rattle.std.specs.FinMap.{entries, get}
 use Rattle.frs_types.specs.declared.record.Record.{Record}
+use Rattle.frs_types.specs.declared.limits.TheConstants.{CLIENT_LIMIT}
 use Rattle.frs_types.specs.Records.{Log, next_lsn, named_lowest}
 use Rattle.frs_disk.specs.declared.disk.Disk.{Ghosts}
 use Rattle.frs_disk.specs.declared.disk.Fault.TheVariants.{Failed}
@@ -152,7 +153,7 @@ module _ {D : Type 0} (g : Ghosts D)
 
   -- ---- the writer
 
-  module _ (clients : ℕ) (some : (1 ≤ clients) × (clients ≤ 64))
+  module _ (clients : ℕ) (some : (1 ≤ clients) × (clients ≤ CLIENT_LIMIT))
       (later : g.moment old ≤ g.moment new) (told_same : g.tells new ≡ g.tells old) (durable : IsSynced g new number)
       (made : IsTrue (g.tells old) → get (g.reads new) number ≡ Some (empty_segment number first))
       (others : IsTrue (g.tells old) → (q : ℕ) → number < q → get (g.reads old) q ≡ None → get (g.reads new) q ≡ None)

@@ -7,7 +7,7 @@ use Rattle.frs_types.specs.Records.{Log, IsPlaced, next_lsn}
 use Rattle.frs_disk.specs.declared.disk.Disk.{Ghosts}
 use Rattle.frs_disk.specs.Disk.{Image, IsNumber}
 use Rattle.frs_disk.specs.Frames.{IsSynced, LeftNoFile}
-use Rattle.frs_types.specs.declared.limits.TheConstants.{NUMBER_LIMIT}
+use Rattle.frs_types.specs.declared.limits.TheConstants.{CLIENT_LIMIT, NUMBER_LIMIT}
 use Rattle.frs_segment.specs.declared.layout.Segment.{Segment}
 use Rattle.frs_segment.specs.Segments.{FileList, WholeSegment}
 use Rattle.frs_segment.specs.Scanning.{places_of_segment}
@@ -38,7 +38,7 @@ pub record IsCounted {D : Type 0} (w : WriterView D) : Type 0 where
   pub most : next_taken w.taker ≤ NUMBER_LIMIT
   pub written : w.synced + 1 ≤ next_taken w.taker
   pub counted : w.ended ≡ None → AreWritten w
-  pub clients : (1 ≤ length w.noted) × (length w.noted ≤ 64)
+  pub clients : (1 ≤ length w.noted) × (length w.noted ≤ CLIENT_LIMIT)
   pub noted : All (λ n. n ≤ w.synced) w.noted
 
 -- ---- the disk

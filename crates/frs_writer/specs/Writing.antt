@@ -90,8 +90,8 @@ pub record StopsWrite {D : Type 0} (g : Ghosts D) (limit : ℕ) (old new : Write
   pub there : IsThere g new.disk (number_of_newest new.segments)
   pub gathered : (new.ended ≡ None) ⊎ GathersSome limit old new
 
--- What a refusal leaves. Nothing more is durable, and the segments are as they were, or the next one was made. Where none
--- was due the writer is ended only behind a group that it has gathered.
+-- What a refusal leaves. Nothing more is durable, and the segments are as they were, or the next one was made. Where
+-- none was due the writer is ended only behind a group that it has gathered.
 pub record IsLeftRefused {D : Type 0} (g : Ghosts D) (limit : ℕ) (old new : WriterView D) : Type 0 where
   pub synced : new.synced ≡ old.synced
   pub segments : (new.segments ≡ old.segments) ⊎ HasMadeNext g old new
@@ -213,8 +213,8 @@ pub record LeavesFound {D : Type 0} (g : Ghosts D) (old new : D) : Type 0 where
   pub whole : IsTrue (g.tells old) → IsWellOpened g old → WasEmpty g old
       → Within g old new (λ c. HoldsLog (LeftNoFile g old) 1 (entries c) [])
 
--- What is there once it is open. The half-made files are gone, the next segment is made, and all else is read as before. A
--- crash leaves the newest file as it is read; and where there was no file, none is half-made.
+-- What is there once it is open. The half-made files are gone, the next segment is made, and all else is read as
+-- before. A crash leaves the newest file as it is read; and where there was no file, none is half-made.
 pub record IsDurableAtOpening {D : Type 0} (g : Ghosts D) (old new : D) (half : List ℕ) (number first : ℕ)
     : Type 0 where
   pub reads : IsTrue (g.tells old) → OpensNext half number first (g.reads old) (g.reads new)

@@ -23,7 +23,7 @@ use frs_segment::{
     ChunkPlace, FILE_LIMIT, Found, HEADER_LENGTH, MOST_RECORDS, Segment, one_log, open_segment,
 };
 use frs_slots::{DrawEnd, Filled, Taker};
-use frs_types::{NUMBER_LIMIT, NoMemory, Sequence};
+use frs_types::{CLIENT_LIMIT, NUMBER_LIMIT, NoMemory, Sequence};
 use std::alloc::Global;
 use std::marker::Model;
 use std::snapshot::Snapshot;
@@ -64,7 +64,7 @@ impl<D: Disk> Model for Writer<D> {
 
 impl<D: Disk> Writer<D> {
     /// Opens a writer on the files that were found: removes the half-made ones, and makes the segment after the greatest
-    /// number. The taker has taken nothing yet and comes with the next LSN. There are 1 to 64 clients.
+    /// number. The taker has taken nothing yet and comes with the next LSN. There are 1 to `CLIENT_LIMIT` clients.
     ///
     /// It answers `NumberLimit` exactly where the new segment would have the number 2^62, before anything is changed.
     /// Where it is refused the disk comes back, and files may have been removed or made. Where the log was empty no open
@@ -76,7 +76,7 @@ impl<D: Disk> Writer<D> {
         found: &Found,
         clients: u32,
     ) -> Result<Writer<D>, Refused<D>>
-        requires clients { (1 ≤ clients) × (clients ≤ 64) }
+        requires clients { (1 ≤ clients) × (clients ≤ CLIENT_LIMIT) }
         requires found { IsTrue (D.tells disk) → (segments : List WholeSegment) × (log : Log)
             × IsFound (entries (D.reads disk)) segments log found.now }
         requires pending { IsTrue (D.tells disk) → NoneRemovedAbove D.Disk disk }

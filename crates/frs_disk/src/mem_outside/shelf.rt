@@ -6,7 +6,7 @@ ghost use Rattle.std.specs.Ordering.{nat_cmp};
 ghost use Rattle.frs_disk.specs.Disk.{HasCause};
 ghost use Rattle.frs_disk.specs.Faults.{FailsExactly};
 ghost use Rattle.frs_disk.specs.Outside.{greatest_of, greatest_snapshot, shelf_cmp};
-ghost use Rattle.frs_disk.specs.Shelved.{shelved};
+ghost use Rattle.frs_disk.specs.ShelfEntries.{shelf_entries};
 ghost use Rattle.frs_disk.specs.MemOutside.{held_on, shelf_tally, new_tally, next_fails, tally_after};
 
 use super::{MemShelf, Tally};
@@ -34,7 +34,7 @@ impl MemShelf {
     /// What it holds: the number of a snapshot, that of a segment and the segment's bytes, in rising order of the
     /// numbers.
     pub fn held(&self) -> &[(u64, u64, Vec<u8>)]
-        ensures { entries (held_on self.now) ≡ shelved result.now }
+        ensures { entries (held_on self.now) ≡ shelf_entries result.now }
     {
         &self.held
     }
@@ -90,8 +90,8 @@ fn put_segment(
     segment: u64,
     bytes: Vec<u8>,
 ) -> Result<(), AllocError>
-    ensures ok { OnOk result (shelved held.new.items
-        ≡ put shelf_cmp (snapshot, segment) bytes.items (shelved held.old.items)) }
+    ensures ok { OnOk result (shelf_entries held.new.items
+        ≡ put shelf_cmp (snapshot, segment) bytes.items (shelf_entries held.old.items)) }
     ensures err { OnErr result (held.new.items ≡ held.old.items) }
 {
     match place_of(held, snapshot, segment) {
@@ -108,12 +108,12 @@ fn place_of(held: &[(u64, u64, Vec<u8>)], snapshot: u64, segment: u64) -> Result
     ensures there { IfOk result (λ at. at < length held.now) }
     ensures puts { MatchResult result
         (λ at. (bytes : List ℕ)
-        → put shelf_cmp (snapshot, segment) bytes (shelved held.now)
-        ≡ set (shelved held.now) at ((snapshot, segment), bytes))
+        → put shelf_cmp (snapshot, segment) bytes (shelf_entries held.now)
+        ≡ set (shelf_entries held.now) at ((snapshot, segment), bytes))
         (λ at. (at ≤ length held.now)
         × ((bytes : List ℕ)
-        → put shelf_cmp (snapshot, segment) bytes (shelved held.now)
-        ≡ insert_at (shelved held.now) at ((snapshot, segment), bytes))) }
+        → put shelf_cmp (snapshot, segment) bytes (shelf_entries held.now)
+        ≡ insert_at (shelf_entries held.now) at ((snapshot, segment), bytes))) }
 {
     for (at, entry) in held.iter().enumerate() {
         match snapshot.cmp(&entry.0).then(segment.cmp(&entry.1)) {

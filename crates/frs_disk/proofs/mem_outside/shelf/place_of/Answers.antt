@@ -1,7 +1,7 @@
 use Rattle.std.proofs.Common.{◌≡◌, ◌∙◌, ℕ, ap, ◌<◌, length, add-one, arith, rules}
 use Rattle.std.specs.declared.cmp.Ordering.TheVariants.{Less, Equal, Greater}
 use Rattle.std.specs.List.{insert as insert_at}
-use Rattle.frs_disk.specs.Shelved.{shelved}
+use Rattle.frs_disk.specs.ShelfEntries.{shelf_entries}
 use Rattle.frs_disk.specs.Outside.{shelf_cmp}
 use Rattle.frs_disk.proofs.ShelfLemmas.{passed_start, passed_more, set_here, insert_here, insert_last}
 use Rattle.frs_disk.proofs.mem_outside.shelf.place_of.Goals as goal
@@ -36,5 +36,5 @@ returns-clause-puts c =
     let end : c.loop-at.at ≡ length held = omega arith in (
       omega arith,
       λ bytes. insert_last held c.loop-at.at (c.args.snapshot, c.args.segment) bytes c.loop-at.invariant end
-          ∙ ap (λ (n : ℕ). insert_at (shelved held) n ((c.args.snapshot, c.args.segment), bytes)) end,
+          ∙ ap (λ (n : ℕ). insert_at (shelf_entries held) n ((c.args.snapshot, c.args.segment), bytes)) end,
     )

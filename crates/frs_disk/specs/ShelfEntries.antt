@@ -2,5 +2,5 @@
 use Rattle.std.specs.Prelude.{ℕ, List, map, Vec}
 use Rattle.std.specs.declared.alloc.Global.{Global}
 
-abbrev pub shelved : List (ℕ × ℕ × Vec ℕ Global) → List ((ℕ × ℕ) × List ℕ)
-shelved held = map (λ e. ((e.0, e.1), e.2.items)) held
+abbrev pub shelf_entries : List (ℕ × ℕ × Vec ℕ Global) → List ((ℕ × ℕ) × List ℕ)
+shelf_entries held = map (λ e. ((e.0, e.1), e.2.items)) held
