@@ -1,0 +1,4 @@
+pub mod SeatsAgree
+pub mod FirstHolds
+pub mod KeeperRows
+pub mod RowsFit

@@ -1,0 +1,5 @@
+pub mod Board
+pub mod Edits
+pub mod Rows
+pub mod RowsFit
+pub mod Seats
