@@ -15,7 +15,7 @@ use Rattle.frs_types.specs.Maps.{Place}
 use Rattle.frs_objects.specs.declared.places.Slot.{Slot}
 use Rattle.frs_objects.specs.Slots.{slot_in, slot_at, slot_without_entry}
 use Rattle.frs_objects.specs.Index.{Rows, row_at, lsn_in, is_lsn, is_blank, Agrees}
-use Rattle.frs_objects.proofs.SlotAt.{by_bytes, at_bytes, by_equal}
+use Rattle.frs_objects.proofs.NestedMaps.{by_bytes, at_bytes, by_equal}
 use Rattle.frs_objects.proofs.Agreement.{split, lsn_from, one_place_by}
 
 -- what a look-up finds is in the list

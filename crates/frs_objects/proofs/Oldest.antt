@@ -175,14 +175,11 @@ no_blank_behind row rows sorted h n None e = refl
 no_blank_behind row rows sorted h n (Some None) e = sym (ap is_blank (row_behind n row rows None sorted e)) ∙ h n
 no_blank_behind row rows sorted h n (Some (Some d)) e = refl
 
-length_row : (row : ℕ × Option Entry) (rows : Rows) (o : Option Entry) → row.1 ≡ o → IsStrictlySortedBy nat_cmp (keys_of (row ∷ rows)) → HaveNoBlank (row ∷ rows) → HaveOwnPlaces (row ∷ rows) → length (table_by rows) ≡ length rows → length (with_row o (table_by rows)) ≡ length rows + 1
-length_row row rows None is sorted h own rest = absurd (true≢false (sym (ap (λ v. is_blank (Some v)) is) ∙ sym (ap is_blank (row_head row.0 row rows ∙ ap (λ b. cond b (Some row.1) (row_at rows row.0)) ((unsigned_Decides row.0 row.0).1 refl))) ∙ h row.0))
-length_row row rows (Some e) is sorted h own rest =
-    length-put place_cmp total (e.id, e.key) (stored_by e) (table_by rows) (from_is_true _ (IsTable-shown rows))
-    ∙ ap (λ b. cond b (length (table_by rows)) (length (table_by rows) + 1)) (nothing (at (table_by rows) (e.id, e.key)) refl)
-    ∙ ap (λ n. n + 1) rest
+-- the place of a row's entry isn't that of a later row
+pub new_place : (row : ℕ × Option Entry) (rows : Rows) (e : Entry) → row.1 ≡ Some e → IsStrictlySortedBy nat_cmp (keys_of (row ∷ rows)) → HaveOwnPlaces (row ∷ rows) → at (table_by rows) (e.id, e.key) ≡ None
+new_place row rows e is sorted own = nothing (at (table_by rows) (e.id, e.key)) refl
   where
-    nothing : (there : Option StoredValue) → at (table_by rows) (e.id, e.key) ≡ there → is_some there ≡ false
+    nothing : (there : Option StoredValue) → at (table_by rows) (e.id, e.key) ≡ there → there ≡ None
     nothing None there = refl
     nothing (Some g) there =
         let s = shows rows (e.id, e.key) g (sorted_tail nat_cmp row.0 (keys_of rows) sorted) there in
@@ -191,19 +188,32 @@ length_row row rows (Some e) is sorted h own rest =
         let later : row.0 < s.lsn = row_later row rows s.lsn (Some s.entry) sorted s.row in
         absurd (omega (arith, same, later))
 
+pub own_behind : (row : ℕ × Option Entry) (rows : Rows) → IsStrictlySortedBy nat_cmp (keys_of (row ∷ rows)) → HaveOwnPlaces (row ∷ rows) → HaveOwnPlaces rows
+own_behind row rows sorted own m n d e i j same = own m n d e (row_behind m row rows (Some d) sorted i) (row_behind n row rows (Some e) sorted j) same
+
+length_row : (row : ℕ × Option Entry) (rows : Rows) (o : Option Entry) → row.1 ≡ o → IsStrictlySortedBy nat_cmp (keys_of (row ∷ rows)) → HaveNoBlank (row ∷ rows) → HaveOwnPlaces (row ∷ rows) → length (table_by rows) ≡ length rows → length (with_row o (table_by rows)) ≡ length rows + 1
+length_row row rows None is sorted h own rest = absurd (true≢false (sym (ap (λ v. is_blank (Some v)) is) ∙ sym (ap is_blank (row_head row.0 row rows ∙ ap (λ b. cond b (Some row.1) (row_at rows row.0)) ((unsigned_Decides row.0 row.0).1 refl))) ∙ h row.0))
+length_row row rows (Some e) is sorted h own rest =
+    length-put place_cmp total (e.id, e.key) (stored_by e) (table_by rows) (from_is_true _ (IsTable-shown rows))
+    ∙ ap (λ o. cond (is_some o) (length (table_by rows)) (length (table_by rows) + 1)) (new_place row rows e is sorted own)
+    ∙ ap (λ n. n + 1) rest
+
 pub length_shown : (rows : Rows) → IsStrictlySortedBy nat_cmp (keys_of rows) → HaveNoBlank rows → HaveOwnPlaces rows → length (table_by rows) ≡ length rows
 length_shown [] sorted h own = refl
 length_shown (row ∷ rows) sorted h own =
     length_row row rows row.1 refl sorted h own
     (length_shown rows (sorted_tail nat_cmp row.0 (keys_of rows) sorted) (λ n. no_blank_behind row rows sorted h n (row_at rows n) refl)
-    (λ m n d e i j same. own m n d e (row_behind m row rows (Some d) sorted i) (row_behind n row rows (Some e) sorted j) same))
+    (own_behind row rows sorted own))
     ∙ (omega arith)
 
-pub length_agrees : (slots : Place → Option Slot) (rows : Rows) → Agrees slots rows [] → length (table_by rows) ≡ length rows
-length_agrees slots rows a = length_shown rows a.ordered (λ n. a.blank n) (λ m n d e i j same. the_number m n (sym (a.owned m d i).1 ∙ ap (λ p. lsn_in (slots p)) same ∙ (a.owned n e j).1))
+pub own_places : (slots : Place → Option Slot) (rows : Rows) → Agrees slots rows [] → HaveOwnPlaces rows
+own_places slots rows a m n d e i j same = the_number m n (sym (a.owned m d i).1 ∙ ap (λ p. lsn_in (slots p)) same ∙ (a.owned n e j).1)
   where
     the_number : (m n : ℕ) → Some m ≡ Some n → m ≡ n
     the_number m n e = cc
+
+pub length_agrees : (slots : Place → Option Slot) (rows : Rows) → Agrees slots rows [] → length (table_by rows) ≡ length rows
+length_agrees slots rows a = length_shown rows a.ordered (λ n. a.blank n) (own_places slots rows a)
 
 -- ---- by the first row of a list
 

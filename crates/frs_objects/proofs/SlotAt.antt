@@ -16,90 +16,15 @@ use Rattle.std.proofs.lemmas.Map.Lookups.{exact_bytes}
 use Rattle.std.proofs.lemmas.Bool.Decides.{nat_tests}
 use Rattle.frs_types.specs.Maps.{Place, same_place}
 use Rattle.frs_objects.specs.declared.places.Slot.{Slot}
+use Rattle.frs_objects.proofs.NestedMaps.{by_bytes, changed, cleared, at_write, at_update, twice}
 use Rattle.frs_objects.specs.Slots.{slot_in, slot_at, kept_by, slot_if_used, slot_without_entry}
 
 abbrev Words : Type 0
 Words = BTreeMap (List ℕ) Slot
 
-abbrev pub by_bytes : {X : Type 0} → BTreeMap (List ℕ) X → List ℕ → Option X
-by_bytes m k = get (slice_cmp nat_cmp) m k
-
--- a test by order and a test of the bytes are one
-pub at_bytes : (x y : List ℕ) → is_at (slice_cmp nat_cmp x) y ≡ bytes_eq x y
-at_bytes x y = sym (texts_ties x y)
-
--- what holds where two words are equal, and where they aren't
-pub by_equal : (x y : List ℕ) (P : Bool → Type 0) → (x ≡ y → P true) → (bytes_eq x y ≡ false → P false) → P (bytes_eq x y)
-by_equal x y P same apart =
-    elim (bytes_eq x y) as (λ b. bytes_eq x y ≡ b → P b) [
-      | true ↦ λ e. same (exact_bytes x y (equal_of _ (at_bytes x y ∙ e)))
-      | false ↦ λ e. apart e
-    ] refl
-  where
-    equal_of : (o : Ordering) → is_eq o ≡ true → o ≡ Equal
-    equal_of Less e = absurd (true≢false (sym e))
-    equal_of Equal e = refl
-    equal_of Greater e = absurd (true≢false (sym e))
-
--- a map that has o at the id, where it had another, and s at the key in there
-pub changed : (m n : BTreeMap (List ℕ) Words) (id key : List ℕ) (o : Option Words) (s : Option Slot)
-    → ((k : List ℕ) → by_bytes n k ≡ cond (bytes_eq id k) o (by_bytes m k))
-    → ((k : List ℕ) → slot_in o k ≡ cond (bytes_eq key k) s (slot_in (by_bytes m id) k))
-    → (q : Place) → slot_at n q ≡ cond (same_place (id, key) q) s (slot_at m q)
-changed m n id key o s outer inner q =
-    ap (λ v. slot_in v q.1) (outer q.0)
-    ∙ by_equal id q.0 (λ b. slot_in (cond b o (by_bytes m q.0)) q.1 ≡ cond (b && bytes_eq key q.1) s (slot_at m q))
-    (λ e. inner q.1 ∙ ap (λ v. cond (bytes_eq key q.1) s (slot_in (by_bytes m v) q.1)) e)
-    (λ _. refl)
-
--- and where it is as it was in there
-pub unchanged : (m n : BTreeMap (List ℕ) Words) (id : List ℕ) (o : Option Words)
-    → ((k : List ℕ) → by_bytes n k ≡ cond (bytes_eq id k) o (by_bytes m k))
-    → ((k : List ℕ) → slot_in o k ≡ slot_in (by_bytes m id) k)
-    → (q : Place) → slot_at n q ≡ slot_at m q
-unchanged m n id o outer inner q =
-    ap (λ v. slot_in v q.1) (outer q.0)
-    ∙ by_equal id q.0 (λ b. slot_in (cond b o (by_bytes m q.0)) q.1 ≡ slot_at m q)
-    (λ e. inner q.1 ∙ ap (λ v. slot_in (by_bytes m v) q.1) e)
-    (λ _. refl)
-
--- and where each key of it was emptied
-pub cleared : (m n : BTreeMap (List ℕ) Words) (id : List ℕ) (o : Option Words)
-    → ((k : List ℕ) → by_bytes n k ≡ cond (bytes_eq id k) o (by_bytes m k))
-    → ((k : List ℕ) → slot_in o k ≡ slot_without_entry (slot_in (by_bytes m id) k))
-    → (q : Place) → slot_at n q ≡ cond (bytes_eq id q.0) (slot_without_entry (slot_at m q)) (slot_at m q)
-cleared m n id o outer inner q =
-    ap (λ v. slot_in v q.1) (outer q.0)
-    ∙ by_equal id q.0 (λ b. slot_in (cond b o (by_bytes m q.0)) q.1 ≡ cond b (slot_without_entry (slot_at m q)) (slot_at m q))
-    (λ e. inner q.1 ∙ ap (λ v. slot_without_entry (slot_in (by_bytes m v) q.1)) e)
-    (λ _. refl)
-
--- what an update says of each key
-pub at_update : {X : Type 0} (m n : BTreeMap (List ℕ) X) (id : List ℕ) (o : Option X) → UpdatesBy (slice_cmp nat_cmp) (slice_cmp nat_cmp id) m n o → (k : List ℕ) → by_bytes n k ≡ cond (bytes_eq id k) o (by_bytes m k)
-at_update m n id o u k = u.0 k ∙ ap (λ b. cond b o (by_bytes m k)) (at_bytes id k)
-
--- what a value written back says of each key
-pub at_write : {X : Type 0} (m n : BTreeMap (List ℕ) X) (id : List ℕ) (v w : X) → by_bytes m id ≡ Some v → WritesThrough (slice_cmp nat_cmp) (slice_cmp nat_cmp id) m w n → (k : List ℕ) → by_bytes n k ≡ cond (bytes_eq id k) (Some w) (by_bytes m k)
-at_write m n id v w is h = at_update m n id (Some w) (h.3 (subst IsSome (sym is) refl))
-
--- two updates of one key
-pub twice : {X : Type 0} (m n r : BTreeMap (List ℕ) X) (id : List ℕ) (o p : Option X)
-    → ((k : List ℕ) → by_bytes n k ≡ cond (bytes_eq id k) o (by_bytes m k))
-    → ((k : List ℕ) → by_bytes r k ≡ cond (bytes_eq id k) p (by_bytes n k))
-    → (k : List ℕ) → by_bytes r k ≡ cond (bytes_eq id k) p (by_bytes m k)
-twice m n r id o p first second k = second k ∙ ap (cond (bytes_eq id k) p) (first k) ∙ covered p o (by_bytes m k) (bytes_eq id k)
-  where
-    covered : {X : Type 0} (p o x : Option X) (b : Bool) → cond b p (cond b o x) ≡ cond b p x
-    covered p o x true = refl
-    covered p o x false = refl
-
 -- a map without entries has nothing at a key
 pub none_in : (w : Words) → w.entries ≡ [] → (k : List ℕ) → slot_in None k ≡ by_bytes w k
 none_in w e k = sym (ap (lookup (is_at (slice_cmp nat_cmp k))) e)
-
--- the same entries have the same at each key
-pub same_at : {X : Type 0} (m n : BTreeMap (List ℕ) X) → n.entries ≡ m.entries → (k : List ℕ) → by_bytes n k ≡ by_bytes m k
-same_at m n e k = ap (lookup (is_at (slice_cmp nat_cmp k))) e
 
 -- what holds anyway holds of a refusal
 pub of_refusal : {V E : Type 0} {P : Type 0} (r : Result V E) → P → OnErr r P
@@ -153,20 +78,20 @@ no_entries (x ∷ es) e = absurd (omega arith)
 
 module _ (m n : BTreeMap (List ℕ) Words) (id : List ℕ) (map w : Words) (value : Some map ≡ by_bytes m id) (writes : WritesThrough (slice_cmp nat_cmp) (slice_cmp nat_cmp id) m w n) where
   pub settled_map : (key : List ℕ) (slot : Slot) → ((k : List ℕ) → by_bytes w k ≡ cond (bytes_eq key k) (slot_if_used slot) (by_bytes map k)) → (q : Place) → slot_at n q ≡ cond (same_place (id, key) q) (slot_if_used slot) (slot_at m q)
-  settled_map key slot h = changed m n id key (Some w) (slot_if_used slot) (at_write m n id map w (sym value) writes) (λ k. h k ∙ ap (λ v. cond (bytes_eq key k) (slot_if_used slot) (slot_in v k)) value)
+  settled_map key slot h = changed slot_in m n id key (Some w) (slot_if_used slot) (at_write m n id map w (sym value) writes) (λ k. h k ∙ ap (λ v. cond (bytes_eq key k) (slot_if_used slot) (slot_in v k)) value)
 
   pub emptied_map : ((k : List ℕ) → by_bytes w k ≡ slot_without_entry (by_bytes map k)) → (q : Place) → slot_at n q ≡ cond (bytes_eq id q.0) (slot_without_entry (slot_at m q)) (slot_at m q)
-  emptied_map h = cleared m n id (Some w) (at_write m n id map w (sym value) writes) (λ k. h k ∙ ap (λ v. slot_without_entry (slot_in v k)) value)
+  emptied_map h = cleared slot_in slot_without_entry m n id (Some w) (at_write m n id map w (sym value) writes) (λ k. h k ∙ ap (λ v. slot_without_entry (slot_in v k)) value)
 
   module _ (r : BTreeMap (List ℕ) Words) (none_left : w.entries ≡ []) (removed : UpdatesBy (slice_cmp nat_cmp) (slice_cmp nat_cmp id) n r None) where
     gone : (k : List ℕ) → by_bytes r k ≡ cond (bytes_eq id k) None (by_bytes m k)
     gone = twice m n r id (Some w) None (at_write m n id map w (sym value) writes) (at_update n r id None removed)
 
     pub settled_gone : (key : List ℕ) (slot : Slot) → ((k : List ℕ) → by_bytes w k ≡ cond (bytes_eq key k) (slot_if_used slot) (by_bytes map k)) → (q : Place) → slot_at r q ≡ cond (same_place (id, key) q) (slot_if_used slot) (slot_at m q)
-    settled_gone key slot h = changed m r id key None (slot_if_used slot) gone (λ k. none_in w none_left k ∙ h k ∙ ap (λ v. cond (bytes_eq key k) (slot_if_used slot) (slot_in v k)) value)
+    settled_gone key slot h = changed slot_in m r id key None (slot_if_used slot) gone (λ k. none_in w none_left k ∙ h k ∙ ap (λ v. cond (bytes_eq key k) (slot_if_used slot) (slot_in v k)) value)
 
     pub emptied_gone : ((k : List ℕ) → by_bytes w k ≡ slot_without_entry (by_bytes map k)) → (q : Place) → slot_at r q ≡ cond (bytes_eq id q.0) (slot_without_entry (slot_at m q)) (slot_at m q)
-    emptied_gone h = cleared m r id None gone (λ k. none_in w none_left k ∙ h k ∙ ap (λ v. slot_without_entry (slot_in v k)) value)
+    emptied_gone h = cleared slot_in slot_without_entry m r id None gone (λ k. none_in w none_left k ∙ h k ∙ ap (λ v. slot_without_entry (slot_in v k)) value)
 
 pub none_from : {X : Type 0} (o : Option X) → is_some o ≡ false → o ≡ None
 none_from None e = refl

@@ -14,7 +14,7 @@ use Rattle.frs_objects.specs.declared.op.Op.TheVariants.{Put}
 use Rattle.frs_objects.specs.declared.places.Slot.{Slot}
 use Rattle.frs_objects.specs.declared.index.Index.{Index}
 use Rattle.frs_objects.specs.Slots.{slot_at, slot_if_used}
-use Rattle.frs_objects.specs.Objects.{stored_by}
+use Rattle.frs_objects.specs.Objects.{stored_by, bytes_at_place}
 
 -- entries by LSN; None stands where an LSN is kept for an entry to come
 abbrev pub Rows : Type 0
@@ -35,6 +35,11 @@ entry_under rows (Some n) = entry_in (row_at rows n)
 abbrev pub with_row : Option Entry → Table StoredValue → Table StoredValue
 with_row None t = t
 with_row (Some e) t = put place_cmp (e.id, e.key) (stored_by e) t
+
+-- the bytes of the entry in a row
+abbrev pub row_bytes : Option Entry → ℕ
+row_bytes None = 0
+row_bytes (Some e) = bytes_at_place (e.id, e.key) (stored_by e)
 
 -- what the entries show
 abbrev pub table_by : Rows → Table StoredValue

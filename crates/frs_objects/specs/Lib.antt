@@ -1,3 +1,4 @@
 pub mod Index
 pub mod Objects
+pub mod Refusals
 pub mod Slots

@@ -1,6 +1,6 @@
 -- Entries as a table: which operation makes which change, the oldest entry, and which LSNs are new.
-use Rattle.std.specs.Prelude.{ℕ, ◌<◌, nat_lt, ◌==◌, false, ◌≡◌, ⊤, List, [], ◌∷◌, map, Option, Some, None, if◌then◌else◌, option_map, unwrap_or}
-use Rattle.std.specs.List.{list_any, AllByRecursion}
+use Rattle.std.specs.Prelude.{ℕ, ◌+◌, length, ◌<◌, nat_lt, ◌==◌, false, ◌≡◌, ⊤, List, [], ◌∷◌, map, Option, Some, None, if◌then◌else◌, option_map, unwrap_or}
+use Rattle.std.specs.List.{list_any, sum_by, AllByRecursion}
 use Rattle.std.specs.FinMap.Entries.{put}
 use Rattle.frs_types.specs.declared.record.Entry.{Entry}
 use Rattle.frs_types.specs.Maps.{Place, Table, Change, at, place_cmp}
@@ -69,6 +69,16 @@ older_of e (Some other) = if nat_lt other.lsn e.lsn then other else e
 abbrev pub oldest_entry : Table StoredValue → Option Entry
 oldest_entry [] = None
 oldest_entry (e ∷ t) = Some (older_of (entry_of e.0 e.1) (oldest_entry t))
+
+-- ---- how much there is
+
+-- the bytes of what stands at a place: of the id, the key and the value
+abbrev pub bytes_at_place : Place → StoredValue → ℕ
+bytes_at_place p h = length p.0 + (length p.1 + length h.value)
+
+-- the bytes of all entries
+abbrev pub table_bytes : Table StoredValue → ℕ
+table_bytes t = sum_by (λ (e : Place × StoredValue). bytes_at_place e.0 e.1) t
 
 -- ---- an entry under another LSN
 

@@ -1,4 +1,7 @@
 //! Why an entry's LSN was not moved.
+ghost use Rattle.std.specs.Prelude.{Some};
+ghost use Rattle.frs_objects.specs.Refusals.{move_fault_text};
+
 use frs_types::NoMemory;
 use std::fmt;
 
@@ -15,6 +18,8 @@ pub enum MoveFault {
 }
 
 impl fmt::Display for MoveFault {
+    ghost output = { λ fault. Some (move_fault_text fault) };
+
     fn fmt<W: fmt::Write>(&self, f: &mut fmt::Formatter<W>) -> fmt::Result {
         match self {
             MoveFault::Changed { found } => write!(f, "the entry has LSN {found}"),

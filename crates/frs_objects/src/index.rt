@@ -1,5 +1,5 @@
 //! The index: entries by LSN, and at each place the LSN of its entry.
-ghost use Rattle.std.specs.Prelude.{◌≡◌, nat_eq, ◌==◌, ◌+◌, ◌<◌, ◌^◌, ℕ, List, [], ◌∷◌, cond, not, None, Some, true, false, IsSome, MatchResult, OnOk, OnErr, option_copied, length, map, ⊤};
+ghost use Rattle.std.specs.Prelude.{◌≡◌, nat_eq, ◌==◌, ◌+◌, ◌<◌, ◌≤◌, ◌^◌, ℕ, List, [], ◌∷◌, cond, not, None, Some, true, false, IsSome, MatchResult, OnOk, OnErr, option_copied, length, map, ⊤};
 ghost use Rattle.std.specs.List.{list_any, IsDistinct};
 ghost use Rattle.std.specs.List.Sorted.{IsStrictlySortedBy};
 ghost use Rattle.std.specs.Map.{keys_of};
@@ -11,12 +11,12 @@ ghost use Rattle.frs_types.specs.Maps.{Place, IsTable, place_cmp, same_place, at
 ghost use Rattle.frs_types.specs.Lawful.{StoredValue};
 ghost use Rattle.frs_objects.specs.Slots.{slot_at};
 ghost use Rattle.frs_objects.specs.declared.places.Slot.{Slot as KeySlot};
-ghost use Rattle.frs_objects.specs.Objects.{stored_by, entry_at, oldest_entry, least_lsn, table_lsns, lsn_of_place, with_lsn, with_put, puts_among, put_lsns, change_by, AreNew};
-ghost use Rattle.frs_objects.specs.Index.{row_at, entry_under, HasRoomFor, is_blank, is_lsn, wanted_in, IsIndex, KeepsFor, table_in};
+ghost use Rattle.frs_objects.specs.Objects.{stored_by, table_bytes, entry_at, oldest_entry, least_lsn, table_lsns, lsn_of_place, with_lsn, with_put, puts_among, put_lsns, change_by, AreNew};
+ghost use Rattle.frs_objects.specs.Index.{row_at, row_bytes, entry_under, HasRoomFor, is_blank, is_lsn, wanted_in, IsIndex, KeepsFor, table_in};
 
 use crate::op::Op;
 use crate::places::{Places, Slot};
-use frs_types::{Entry, Key, MapId, NoMemory};
+use frs_types::{Entry, ID_LIMIT, KEY_LIMIT, Key, MapId, NoMemory, VALUE_LIMIT};
 use std::alloc::Global;
 use std::collections::BTreeMap;
 
@@ -91,6 +91,18 @@ impl Index {
         ensures lsns { IsIndex self.now [] → IsDistinct nat_eq (table_lsns (table_in self.now)) }
     {
         self.entries.len() as u64
+    }
+
+    /// The sum of the lengths of the ids, keys and values of all entries. It goes over them. Takes no memory.
+    pub fn bytes(&self) -> u128
+        ensures { IsIndex self.now [] → result ≡ table_bytes (table_in self.now) }
+    {
+        let _count = self.entries.len();
+        let mut bytes = 0;
+        for (_, row) in &self.entries {
+            bytes += bytes_of(row);
+        }
+        bytes
     }
 
     /// Puts an entry in. After want of memory all is as it was.
@@ -384,6 +396,20 @@ impl Index {
             self.commit_op(op);
         }
     }
+}
+
+// How many bytes the entry has that stands in a row.
+fn bytes_of(row: &Option<Entry>) -> u128
+    ensures bytes { result ≡ row_bytes row.now }
+    ensures most { result ≤ ID_LIMIT + (KEY_LIMIT + VALUE_LIMIT) }
+{
+    let Some(entry) = row else {
+        return 0;
+    };
+    let id = entry.id.bytes().len() as u128;
+    let key = entry.key.bytes().len() as u128;
+    let value = entry.value.bytes().len() as u128;
+    id + (key + value)
 }
 
 // Takes the entries of the keys of a map out.

@@ -4,7 +4,7 @@ ghost use Rattle.frs_types.specs.Maps.{IsTable, table_after_all};
 ghost use Rattle.std.specs.List.{list_any, IsDistinct};
 ghost use Rattle.frs_types.specs.Lawful.{table_of};
 ghost use Rattle.frs_objects.specs.declared.fault.MoveFault.TheVariants.{Changed, Memory};
-ghost use Rattle.frs_objects.specs.Objects.{entry_at, oldest_entry, least_lsn, puts_among, put_lsns, change_by, AreNew, HaveOwnNumbers, table_lsns, lsn_of_place, with_lsn};
+ghost use Rattle.frs_objects.specs.Objects.{table_bytes, entry_at, oldest_entry, least_lsn, puts_among, put_lsns, change_by, AreNew, HaveOwnNumbers, table_lsns, lsn_of_place, with_lsn};
 
 use crate::fault::MoveFault;
 use crate::index::Index;
@@ -82,6 +82,15 @@ impl Objects {
         ensures lsns { IsDistinct nat_eq (table_lsns self.now) }
     {
         self.index.live()
+    }
+
+    /// The number of entries, and the sum of the lengths of their ids, keys and values. It goes over all entries, so
+    /// it is for what is asked once. Takes no memory.
+    pub fn totals(&self) -> (u64, u128)
+        ensures live { result.0 ≡ length self.now }
+        ensures bytes { result.1 ≡ table_bytes self.now }
+    {
+        (self.index.live(), self.index.bytes())
     }
 
     /// Makes these changes in order, and leaves `ops` empty. Of puts, removes and deletes of one key the last one

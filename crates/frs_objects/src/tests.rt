@@ -135,6 +135,7 @@ fn a_transaction(rt: HostRuntime) -> Result<(), Fail> {
     apply(&rt, alloc, &mut objects, &mut ops)?;
     assert_eq!(rt; ops.len(), 0);
     assert_eq!(rt; objects.live(), 1);
+    assert_eq!(rt; objects.totals(), (1, 3));
     assert!(rt; has(alloc, &objects, b"m", b"a", b"3", 6)?);
     assert_eq!(rt; objects.lowest(), Some(6));
     ops.push(put(alloc, b"m", b"k", b"x", 7)?)?;

@@ -1,7 +1,8 @@
 -- By the key that is written or taken out.
 use Rattle.std.proofs.Common.{◌∙◌, ap, sym, cond, None, is_some, true≢false}
 use Rattle.std.specs.Str.{bytes_eq}
-use Rattle.frs_objects.proofs.SlotAt.{by_bytes, at_write, at_update, settled_none, settled_some, none_from}
+use Rattle.frs_objects.proofs.NestedMaps.{by_bytes, at_write, at_update}
+use Rattle.frs_objects.proofs.SlotAt.{settled_none, settled_some, none_from}
 use Rattle.frs_objects.proofs.places.settle_key.Goals as goal
 use Rattle.frs_objects.proofs.places.settle_key.Goals.{else-is_none-via-then-is_none+else-slot-eq0, else-is_none-via-else-is_none}
 
