@@ -1,6 +1,6 @@
 -- What a run of calls leaves of a disk beside what it was made for, and what a crash may leave while it goes on. Each
 -- word takes the members of the trait as one argument.
-use Rattle.std.specs.Prelude.{◌≡◌, ◌≤◌, ℕ, None, IsTrue, IsSome}
+use Rattle.std.specs.Prelude.{◌≡◌, ◌≤◌, ℕ, max, None, IsTrue, IsSome}
 use Rattle.std.specs.FinMap.{empty, get}
 use Rattle.frs_disk.specs.declared.disk.Disk.{Ghosts}
 use Rattle.frs_disk.specs.Disk.{Image, SameElsewhere, AgreesElsewhere, Keeps, Passes}
@@ -58,6 +58,10 @@ pub record ChangesOneFile {D : Type 0} (g : Ghosts D) (number : ℕ) (old new : 
   pub pending : (n : ℕ) → g.removing new n → g.removing old n
   pub time : Passes g.moment g.left_since old new
   pub elsewhere : Within g old new (AgreesElsewhere number (g.may_leave old))
+
+-- No read in it was asked for more room than this.
+abbrev pub ReadsNoWider : {D : Type 0} → Ghosts D → ℕ → D → D → Type 0
+ReadsNoWider g room old new = g.widest new ≤ max (g.widest old) room
 
 -- It goes on from the disk's state: whether content is told stays, and time goes on.
 pub record GoesOn {D : Type 0} (g : Ghosts D) (old new : D) : Type 0 where

@@ -28,6 +28,10 @@ fault_plan_of disk = disk.plan
 abbrev pub faults_of : MemDisk → ℕ
 faults_of disk = disk.faults
 
+-- the greatest room that a read was asked for
+abbrev pub widest_of : MemDisk → ℕ
+widest_of disk = disk.widest
+
 -- what a crash at this moment may leave, and what one since a moment might have
 abbrev pub left_by : MemDisk → Image → Type 0
 left_by disk = MayLeave (start_of disk) (record_of disk)

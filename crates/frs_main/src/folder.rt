@@ -23,6 +23,8 @@ use std::{fs, io};
 pub struct FolderDisk {
     folder: Folder,
     faults: u64,
+    // The most bytes that a read was asked for.
+    widest: u64,
 }
 
 #[derive(Drop)]
@@ -61,7 +63,11 @@ impl FolderDisk {
             has_new_name: false,
             has_failed: false,
         };
-        Ok(FolderDisk { folder, faults: 0 })
+        Ok(FolderDisk {
+            folder,
+            faults: 0,
+            widest: 0,
+        })
     }
 }
 
@@ -277,6 +283,8 @@ impl Disk for FolderDisk {
 
     ghost faults = { λ d. d.faults };
 
+    ghost widest = { λ d. d.widest };
+
     ghost counts_now = { λ d t c le left. left };
 
     ghost only_now = { λ d c left. left };
@@ -309,6 +317,7 @@ impl Disk for FolderDisk {
     }
 
     fn read(&mut self, alloc: Global, number: u64, at: u64, room: u64) -> Result<Vec<u8>, Fault> {
+        self.widest = self.widest.max(room);
         let found = self.folder.read(alloc, number, at, room);
         answer(&mut self.faults, found)
     }

@@ -1,17 +1,19 @@
 -- What is known once the files of a store were looked at from the greatest number down to one of them.
-use Rattle.std.specs.Prelude.{◌≡◌, ◌⊎◌, ℕ, ◌-◌, Bool, not, List, [], ◌∷◌, ◌++◌, map, reverse, IsTrue, Option, None, Some}
+use Rattle.std.specs.Prelude.{◌≡◌, ◌⊎◌, ℕ, ◌-◌, Bool, not, List, [], ◌∷◌, ◌++◌, drop, map, reverse, IsTrue, Option, None, Some}
 use Rattle.std.specs.List.{AllByRecursion}
 use Rattle.frs_types.specs.declared.record.Record.{Record}
 use Rattle.frs_disk.specs.Disk.{Image, bytes_at}
+use Rattle.frs_segment.specs.declared.layout.ChunkPlace.{ChunkPlace}
 use Rattle.frs_segment.specs.declared.layout.Segment.{Segment}
 use Rattle.frs_segment.specs.declared.fault.ScanFault.{ScanFault}
 use Rattle.frs_segment.specs.declared.fault.ScanFault.TheVariants as scan
 use Rattle.frs_segment.specs.Segments.{File, WholeSegment, IsSegment, is_open_file, end_of, first_of, follow_from, records_of, all_records}
-use Rattle.frs_segment.specs.Scanning.{places_of_segment, IsRefused}
+use Rattle.frs_segment.specs.Scanning.{places_of_segment, IsChunk, IsRefused}
+use Rattle.frs_segment.specs.Heads.{IsInLine, HasHeads, HasHeaderBytes, AreChunks, StandIn, segment_with}
 use Rattle.frs_recovery.specs.declared.descent.Descent.{Descent}
 use Rattle.frs_recovery.specs.declared.backward_reader.BackwardReader.{BackwardReader}
 use Rattle.frs_recovery.specs.declared.fault.RecoverFault.{RecoverFault}
-use Rattle.frs_recovery.specs.declared.fault.RecoverFault.TheVariants.{BadChunk, Disk, Memory}
+use Rattle.frs_recovery.specs.declared.fault.RecoverFault.TheVariants.{BadHeader, BadChunk, NumberLimit, Disk, Memory}
 use Rattle.frs_recovery.specs.OfferedRecords.{HasRead}
 use Rattle.frs_recovery.specs.FirstFault.{refusal_of, ends_below, gap_below}
 
@@ -23,13 +25,12 @@ file_at image number = (number, bytes_at image number)
 abbrev pub IsMeant : WholeSegment → Type 0
 IsMeant s = (file : File) × IsSegment file s
 
--- What a scan of a file that may be half-made has told: the segment that the file is, and of some bytes also where the
--- disk doesn't tell the file.
+-- What the heads of a file that may be half-made have told: where its chunks stand, and that they stand so in the file
+-- where the disk tells it.
 abbrev pub TellsSegment : Bool → File → Option Segment → Type 0
 TellsSegment tells file None = IsTrue tells → IsTrue (not (is_open_file file))
 TellsSegment tells file (Some found) =
-    (s : WholeSegment) × IsMeant s × (s.number ≡ file.0) × (found ≡ places_of_segment s)
-    × (IsTrue tells → IsSegment file s)
+    (found.number ≡ file.0) × IsInLine found × (IsTrue tells → HasHeads file found × HasHeaderBytes file)
 
 -- Why it was refused. The disk and memory are free.
 abbrev pub IsFileFault : File → RecoverFault → Type 0
@@ -37,25 +38,32 @@ IsFileFault file Disk = Unit {0}
 IsFileFault file Memory = Unit {0}
 IsFileFault file fault = (why : ScanFault) × IsRefused file why × (refusal_of file.0 why ≡ Some fault)
 
--- The records of the segment were read, in front of these; where the disk doesn't tell the file, those of a segment
--- whose chunks stand at the same places.
-abbrev pub ReadsSegment : Bool → WholeSegment → List Record → BackwardReader → Type 0
-ReadsSegment tells s rs back =
-    (t : WholeSegment) × IsMeant t × (places_of_segment t ≡ places_of_segment s) × (IsTrue tells → t ≡ s)
-    × HasRead back t.first (records_of t ++ rs)
+-- The records of the segment's chunks were read, in front of those that were; where the disk tells the file, they are
+-- those that stand at the chunks' places.
+abbrev pub ReadsSegment : Bool → List ℕ → Segment → BackwardReader → BackwardReader → Type 0
+ReadsSegment tells bytes found old new =
+    (chunks : List (List Record)) × AreChunks found.chunks chunks × (IsTrue tells → StandIn bytes found.chunks chunks)
+    × ((rs : List Record) → HasRead old found.«end» rs
+    → HasRead new found.first (records_of (segment_with found chunks) ++ rs))
 
--- The fault is the disk's or memory's.
-abbrev pub IsOutsideFault : RecoverFault → Type 0
-IsOutsideFault Disk = Unit {0}
-IsOutsideFault Memory = Unit {0}
-IsOutsideFault fault = ⊥
+-- The file is no segment, and isn't half-made.
+pub record IsUnreadable (file : File) : Type 0 where
+  pub no_segment : (s : WholeSegment) → IsSegment file s → ⊥
+  pub finished : IsRefused file scan.HalfMade → ⊥
 
--- how it is told that a chunk wasn't read: the fault is the disk's or memory's, or the chunk isn't where a scan has
--- told
-abbrev pub chunk_fault : ℕ → ℕ → ScanFault → RecoverFault
-chunk_fault number offset scan.Disk = Disk
-chunk_fault number offset scan.Memory = Memory
-chunk_fault number offset fault = BadChunk number offset
+-- if the file is a segment, a chunk stands at the place
+abbrev pub NeedsChunk : File → ChunkPlace → Type 0
+NeedsChunk file place =
+    (s : WholeSegment) → IsSegment file s → (rs : List Record) × IsChunk place (drop place.offset file.1) rs
+
+-- How it is told of a store what is wrong with a file. That it is half-made is wrong with its first byte.
+abbrev pub store_fault : ℕ → ScanFault → RecoverFault
+store_fault number scan.HalfMade = BadHeader number 0
+store_fault number (scan.BadHeader offset) = BadHeader number offset
+store_fault number (scan.BadChunk offset) = BadChunk number offset
+store_fault number (scan.NumberLimit lsn) = NumberLimit lsn
+store_fault number scan.Disk = Disk
+store_fault number scan.Memory = Memory
 
 -- These segments were looked at, listed by rising number: each goes on where the one below it ends, and all of their
 -- records were read.

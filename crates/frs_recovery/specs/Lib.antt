@@ -4,4 +4,5 @@ pub mod DescentEnd
 pub mod Faults
 pub mod FirstFault
 pub mod OfferedRecords
+pub mod Refusals
 pub mod Sound

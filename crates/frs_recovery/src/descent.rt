@@ -3,18 +3,21 @@ ghost use Rattle.std.specs.Prelude.{◌≡◌, ◌+◌, ◌-◌, ◌<◌, ◌≤
 ghost use Rattle.std.specs.FinMap.{get, entries};
 ghost use Rattle.frs_types.specs.declared.record.Record.{Record};
 ghost use Rattle.frs_disk.specs.Disk.{bytes_at, IsNumber};
-ghost use Rattle.frs_disk.specs.Frames.{IsThere, OnlyReads};
+ghost use Rattle.frs_disk.specs.Frames.{IsThere, OnlyReads, ReadsNoWider};
 ghost use Rattle.frs_segment.specs.Segments.{WholeSegment, IsSegment, end_of, first_of, all_records, are_enough};
-ghost use Rattle.frs_segment.specs.Scanning.{places_of_segment, IsChunk};
-ghost use Rattle.frs_recovery.specs.Faults.{HasRecoverCause, IsOfFiles, GivesRecovered};
-ghost use Rattle.frs_recovery.specs.Descent.{file_at, HasLookedAt, LooksAt, IsWrongFile, IsFileFault, TellsSegment, ReadsSegment, IsMeant, IsOutsideFault, chunk_fault};
+ghost use Rattle.frs_segment.specs.declared.fault.ScanFault.TheVariants.{HalfMade};
+ghost use Rattle.frs_segment.specs.Faults.{IsOfText};
+ghost use Rattle.frs_segment.specs.Scanning.{places_of_segment, IsChunk, IsRefused};
+ghost use Rattle.frs_segment.specs.Heads.{IsInLine, HasHeads};
+ghost use Rattle.frs_recovery.specs.Faults.{HasRecoverCause, CountsFault, IsOfFiles};
+ghost use Rattle.frs_recovery.specs.Descent.{file_at, HasLookedAt, LooksAt, IsWrongFile, IsFileFault, TellsSegment, ReadsSegment, IsMeant, IsUnreadable, NeedsChunk, store_fault};
 ghost use Rattle.frs_recovery.specs.OfferedRecords.{HasRead};
 ghost use Rattle.frs_recovery.specs.FirstFault.{goes_further, ends_below, gap_below};
 
 use crate::backward_reader::BackwardReader;
 use crate::fault::RecoverFault;
 use frs_disk::Disk;
-use frs_segment::{ChunkPlace, ScanFault, Segment, read_chunk, scan};
+use frs_segment::{ChunkPlace, ScanFault, Segment, WIDEST, heads, read_chunk, scan, segment_heads};
 use frs_types::Record;
 use std::alloc::Global;
 
@@ -120,47 +123,43 @@ pub(crate) fn look_at<D: Disk>(
         → IsTrue (D.tells disk.old)
         → IfErr result (IsWrongFile (file_at (D.reads disk.old) number) segments) }
     ensures frame { OnlyReads D.Disk disk.old disk.new }
+    ensures width { ReadsNoWider D.Disk WIDEST disk.old disk.new }
     ensures cause { HasRecoverCause (D.faults disk.old) (D.faults disk.new) result }
 {
     let Some(segment) = segment_of(alloc, disk, number)? else {
         descent.half.push(number)?;
         return Ok(());
     };
-    descent.meets(&segment)?;
+    segment_heads();
+    let met = descent.meets(&segment);
     read_segment(alloc, disk, &segment, &mut descent.records)?;
+    met?;
     descent.segments.push(segment)?;
     Ok(())
 }
 
-// The segment that a file is, or none where it is half-made.
+// The segment that a file is by the heads of its chunks, or none where it is half-made.
 fn segment_of<D: Disk>(
     alloc: Global,
     disk: &mut D,
     number: u64,
 ) -> Result<Option<Segment>, RecoverFault>
-    requires in_range { IsNumber number }
     requires there { IsThere D.Disk disk.old number }
     ensures found { IfOk result (TellsSegment (D.tells disk.old)
         (file_at (D.reads disk.old) number)) }
     ensures why { IsTrue (D.tells disk.old)
         → IfErr result (IsFileFault (file_at (D.reads disk.old) number)) }
     ensures frame { OnlyReads D.Disk disk.old disk.new }
+    ensures width { ReadsNoWider D.Disk WIDEST disk.old disk.new }
     ensures cause { HasRecoverCause (D.faults disk.old) (D.faults disk.new) result }
 {
-    match scan(alloc, disk, number) {
+    segment_heads();
+    match heads(alloc, disk, number) {
         Ok(segment) => Ok(Some(segment)),
         Err(ScanFault::HalfMade) => Ok(None),
-        Err(ScanFault::BadHeader { offset }) => Err(RecoverFault::BadHeader {
-            segment: number,
-            offset,
-        }),
-        Err(ScanFault::BadChunk { offset }) => Err(RecoverFault::BadChunk {
-            segment: number,
-            offset,
-        }),
-        Err(ScanFault::NumberLimit { lsn }) => Err(RecoverFault::NumberLimit { lsn }),
         Err(ScanFault::Disk) => Err(RecoverFault::Disk),
         Err(ScanFault::Memory) => Err(RecoverFault::Memory),
+        Err(fault) => Err(first_fault(alloc, disk, number, fault)),
     }
 }
 
@@ -171,20 +170,18 @@ fn read_segment<D: Disk>(
     segment: &Segment,
     records: &mut BackwardReader,
 ) -> Result<(), RecoverFault>
-    requires meant { (s : WholeSegment) × IsMeant s × (segment.now ≡ places_of_segment s) }
+    requires line { IsInLine segment.now }
     requires there { IsThere D.Disk disk.old segment.now.number }
-    ensures read { (s : WholeSegment) (rs : List Record) → IsMeant s
-        → segment.now ≡ places_of_segment s
-        → (IsTrue (D.tells disk.old)
-        → IsSegment (file_at (D.reads disk.old) segment.now.number) s)
-        → HasRead records.old (end_of s) rs
-        → OnOk result (ReadsSegment (D.tells disk.old) s rs records.new) }
-    ensures only { IsTrue (D.tells disk.old) → (s : WholeSegment)
-        → IsSegment (file_at (D.reads disk.old) segment.now.number) s
-        → segment.now ≡ places_of_segment s → IfErr result IsOutsideFault }
+    ensures read { OnOk result (ReadsSegment (D.tells disk.old)
+        (bytes_at (D.reads disk.old) segment.now.number) segment.now records.old records.new) }
+    ensures why { IsTrue (D.tells disk.old)
+        → HasHeads (file_at (D.reads disk.old) segment.now.number) segment.now
+        → IfErr result (IsFileFault (file_at (D.reads disk.old) segment.now.number)) }
     ensures frame { OnlyReads D.Disk disk.old disk.new }
+    ensures width { ReadsNoWider D.Disk WIDEST disk.old disk.new }
     ensures cause { HasRecoverCause (D.faults disk.old) (D.faults disk.new) result }
 {
+    segment_heads();
     let mut left = segment.chunks.items();
     while let [older @ .., place] = left {
         let chunk = chunk_of(alloc, disk, segment.number, place)?;
@@ -194,7 +191,7 @@ fn read_segment<D: Disk>(
     Ok(())
 }
 
-// The records of a chunk that was found in a file.
+// The records of a chunk whose place the heads of a file have told.
 fn chunk_of<D: Disk>(
     alloc: Global,
     disk: &mut D,
@@ -202,30 +199,65 @@ fn chunk_of<D: Disk>(
     place: &ChunkPlace,
 ) -> Result<Vec<Record>, RecoverFault>
     requires there { IsThere D.Disk disk.old number }
+    ensures found { IfOk result (λ records. IsTrue (D.tells disk.old)
+        → IsChunk place.now (drop place.now.offset (bytes_at (D.reads disk.old) number))
+        records.items) }
     ensures meant { IfOk result (λ records. (text : List ℕ)
         × IsChunk place.now text records.items) }
-    ensures only { IsTrue (D.tells disk.old) → (rs : List Record)
-        → IsChunk place.now (drop place.now.offset (bytes_at (D.reads disk.old) number)) rs
-        → GivesRecovered (λ records. records.items ≡ rs) result }
+    ensures why { IsTrue (D.tells disk.old)
+        → NeedsChunk (file_at (D.reads disk.old) number) place.now
+        → (IsRefused (file_at (D.reads disk.old) number) HalfMade → ⊥)
+        → IfErr result (IsFileFault (file_at (D.reads disk.old) number)) }
     ensures frame { OnlyReads D.Disk disk.old disk.new }
+    ensures width { ReadsNoWider D.Disk WIDEST disk.old disk.new }
     ensures cause { HasRecoverCause (D.faults disk.old) (D.faults disk.new) result }
 {
     match read_chunk(alloc, disk, number, place) {
         Ok(records) => Ok(records),
-        Err(fault) => Err(chunk_fault(number, place.offset, fault)),
+        Err(ScanFault::Disk) => Err(RecoverFault::Disk),
+        Err(ScanFault::Memory) => Err(RecoverFault::Memory),
+        Err(fault) => Err(first_fault(alloc, disk, number, fault)),
     }
 }
 
-// How it is told that a chunk wasn't read.
-fn chunk_fault(number: u64, offset: u64, fault: ScanFault) -> RecoverFault
-    ensures { result ≡ chunk_fault number offset fault }
+// What is wrong first with a file of which this was found to be wrong: a scan of the whole file tells it. Where it
+// tells nothing, it is what was found.
+fn first_fault<D: Disk>(alloc: Global, disk: &mut D, number: u64, found: ScanFault) -> RecoverFault
+    requires of_text { IsOfText found }
+    requires there { IsThere D.Disk disk.old number }
+    ensures why { IsTrue (D.tells disk.old)
+        → IsUnreadable (file_at (D.reads disk.old) number)
+        → IsFileFault (file_at (D.reads disk.old) number) result }
+    ensures frame { OnlyReads D.Disk disk.old disk.new }
+    ensures width { ReadsNoWider D.Disk WIDEST disk.old disk.new }
+    ensures cause { CountsFault (D.faults disk.old) (D.faults disk.new) result }
+{
+    match scan(alloc, disk, number) {
+        Ok(_) => store_fault(number, found),
+        Err(ScanFault::HalfMade) => store_fault(number, found),
+        Err(fault) => store_fault(number, fault),
+    }
+}
+
+// How it is told of a store what is wrong with a file.
+fn store_fault(number: u64, fault: ScanFault) -> RecoverFault
+    ensures { result ≡ store_fault number fault }
 {
     match fault {
-        ScanFault::Disk => RecoverFault::Disk,
-        ScanFault::Memory => RecoverFault::Memory,
-        _ => RecoverFault::BadChunk {
+        ScanFault::HalfMade => RecoverFault::BadHeader {
+            segment: number,
+            offset: 0,
+        },
+        ScanFault::BadHeader { offset } => RecoverFault::BadHeader {
             segment: number,
             offset,
         },
+        ScanFault::BadChunk { offset } => RecoverFault::BadChunk {
+            segment: number,
+            offset,
+        },
+        ScanFault::NumberLimit { lsn } => RecoverFault::NumberLimit { lsn },
+        ScanFault::Disk => RecoverFault::Disk,
+        ScanFault::Memory => RecoverFault::Memory,
     }
 }

@@ -1,7 +1,8 @@
 //! Why a store couldn't be read back.
-ghost use Rattle.std.specs.Prelude.{◌≡◌};
+ghost use Rattle.std.specs.Prelude.{◌≡◌, Some};
 ghost use Rattle.frs_recovery.specs.declared.fault.RecoverFault.TheVariants.{Memory};
 ghost use Rattle.frs_recovery.specs.Faults.{recover_fault_of};
+ghost use Rattle.frs_recovery.specs.Refusals.{recover_fault_text};
 
 use frs_disk::Fault;
 use frs_types::NoMemory;
@@ -46,6 +47,8 @@ pub enum RecoverFault {
 }
 
 impl fmt::Display for RecoverFault {
+    ghost output = { λ fault. Some (recover_fault_text fault) };
+
     fn fmt<W: fmt::Write>(&self, f: &mut fmt::Formatter<W>) -> fmt::Result {
         match self {
             RecoverFault::BadHeader { segment, offset } => {

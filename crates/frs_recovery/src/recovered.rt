@@ -9,7 +9,7 @@ pub struct Recovered {
     pub entries: Sequence<Entry>,
     /// What was found in its files.
     pub found: Found,
-    /// The lowest LSN that is still needed: the least of the entries' LSNs, of the begins that no later commit, abandon or
-    /// mark ends, and of the next LSN.
+    /// The lowest LSN that is still needed: the least of the entries' LSNs, of the begins that no later commit,
+    /// abandon or mark ends, and of the next LSN.
     pub lowest: u64,
 }

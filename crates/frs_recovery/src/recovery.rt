@@ -8,7 +8,7 @@ ghost use Rattle.frs_types.specs.declared.record.Record.{Record};
 ghost use Rattle.frs_types.specs.Records.{Log, from_lowest};
 ghost use Rattle.frs_types.specs.Lawful.{Lawful, settled_state, state_after};
 ghost use Rattle.frs_disk.specs.Disk.{bytes_at, IsNumber};
-ghost use Rattle.frs_disk.specs.Frames.{IsThere, OnlyReads};
+ghost use Rattle.frs_disk.specs.Frames.{IsThere, OnlyReads, ReadsNoWider};
 ghost use Rattle.frs_segment.specs.Segments.{FileList, WholeSegment, SpellsBy, Spells};
 ghost use Rattle.frs_segment.specs.Stores.{numbers_of};
 ghost use Rattle.frs_recovery.specs.declared.fault.RecoverFault.{RecoverFault};
@@ -24,22 +24,22 @@ use crate::recovered::Recovered;
 use crate::unique_answer::one_answer;
 use frs_disk::Disk;
 use frs_filters::survivors_in_order;
-use frs_segment::{Found, Segment, one_log};
+use frs_segment::{Found, Segment, WIDEST, one_log};
 use frs_types::Sequence;
 use std::alloc::Global;
 
 /// Reads a store back: the entries that survive in its log, by rising LSN, what was found in its files, and the lowest
 /// LSN that is still needed. Nothing on the disk changes.
 ///
-/// It goes from the file with the greatest number down. Half-made files are noted and passed over. Each other file has to
-/// be a segment and to end where the one above it begins. The newest record names the lowest LSN that is needed; the
-/// segment that begins at or below it is the last that is looked at. A store without a record is looked at to its end, and
-/// begins at LSN 1.
+/// It goes from the file with the greatest number down. Half-made files are noted and passed over. Each other file
+/// has to be a segment and to end where the one above it begins. The newest record names the lowest LSN that is
+/// needed; the segment that begins at or below it is the last that is looked at. A store without a record is looked
+/// at to its end, and begins at LSN 1.
 ///
-/// The fault is what is wrong first on this way: `BadHeader`, `BadChunk` or `NumberLimit` as `scan` tells it of a file;
-/// `Gap` where a segment doesn't end where the one above it begins, with the LSN before that one and the last LSN of the
-/// segment; `Gap` with 0 as the last LSN where no file is left and the log doesn't begin there. `Disk` and `Memory` may
-/// come instead.
+/// The fault is what is wrong first on this way: `BadHeader`, `BadChunk` or `NumberLimit` as `scan` tells it of a
+/// file; `Gap` where a segment doesn't end where the one above it begins, with the LSN before that one and the last
+/// LSN of the segment; `Gap` with 0 as the last LSN where no file is left and the log doesn't begin there. `Disk` and
+/// `Memory` may come instead.
 pub fn recover<D: Disk>(alloc: Global, disk: &mut D) -> Result<Recovered, RecoverFault>
     // What is read back is what the files spell.
     ensures found { IfOk result (λ r. IsTrue (D.tells disk.old)
@@ -66,6 +66,7 @@ pub fn recover<D: Disk>(alloc: Global, disk: &mut D) -> Result<Recovered, Recove
     ensures in_range { IfOk result IsInRange }
 
     ensures frame { OnlyReads D.Disk disk.old disk.new }
+    ensures width { ReadsNoWider D.Disk WIDEST disk.old disk.new }
     ensures cause { HasRecoverCause (D.faults disk.old) (D.faults disk.new) result }
 {
     one_answer();
@@ -83,6 +84,7 @@ fn go_down<D: Disk>(alloc: Global, disk: &mut D, numbers: &[u64]) -> Result<Desc
     ensures why { IsTrue (D.tells disk.old)
         → IfErr result (IsCauseOnDisk (entries (D.reads disk.old))) }
     ensures frame { OnlyReads D.Disk disk.old disk.new }
+    ensures width { ReadsNoWider D.Disk WIDEST disk.old disk.new }
     ensures cause { HasRecoverCause (D.faults disk.old) (D.faults disk.new) result }
 {
     let mut descent = Descent::new(alloc);

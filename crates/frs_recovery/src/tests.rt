@@ -25,13 +25,26 @@ const MARK: [u8; 43] = [
     0, 0, 2, 0, 0, 0, 0, 0, 0, 0, 0, 0,
 ];
 
+// What a recovery reads of the whole segment, as the file's number, the offset and the room: the header, each gate
+// with the head behind it, and then the chunks from the newest to the oldest.
+const READS: [(u64, u64, u64); 8] = [
+    (1, 0, 23),
+    (1, 22, 17),
+    (1, 64, 17),
+    (1, 113, 17),
+    (1, 155, 17),
+    (1, 113, 43),
+    (1, 64, 50),
+    (1, 22, 43),
+];
+
 // A segment's header behind a closed gate, and the closed gate of its first chunk.
 const HALF_MADE: [u8; 23] = [
     0, 70, 82, 83, 83, 1, 0, 0, 0, 0, 0, 0, 0, 2, 0, 0, 0, 0, 0, 0, 0, 4, 0,
 ];
 
-// The header of segment 1 behind a closed gate, and the closed gate of its first chunk: the file as it is before its gate
-// is opened.
+// The header of segment 1 behind a closed gate, and the closed gate of its first chunk: the file as it is before its
+// gate is opened.
 const GATE_CLOSED: [u8; 23] = [
     0, 70, 82, 83, 83, 1, 0, 0, 0, 0, 0, 0, 0, 1, 0, 0, 0, 0, 0, 0, 0, 1, 0,
 ];
@@ -361,6 +374,15 @@ fn empty(alloc: Global, number: u8, first: u8) -> Result<Vec<u8>, NoMemory> {
 }
 
 // One segment that was cut.
+#[test]
+fn reads_of_a_segment(rt: HostRuntime) -> Result<(), Fail> {
+    let alloc = rt.alloc();
+    let mut disk = one(alloc, 1, changed(alloc, 0, 1)?)?;
+    assert!(rt; recover(alloc, &mut disk).is_ok());
+    assert!(rt; disk.reads() == READS.as_slice());
+    Ok(())
+}
+
 #[test]
 fn cut_files(rt: HostRuntime) -> Result<(), Fail> {
     let alloc = rt.alloc();

@@ -1,18 +1,20 @@
 -- What a header that is read tells, and that a file that begins with a header is read so.
-use Rattle.std.proofs.Common.{◌≡◌, ℕ, ◌^◌, ◌<◌, ◌≤◌, false, not, List, ◌∷◌, ◌++◌, length, take, drop, Ok, sym, ap, ◌∙◌, arith}
+use Rattle.std.proofs.Common.{◌≡◌, inl, inr, ℕ, ◌+◌, ◌^◌, ◌<◌, ◌≤◌, Bool, false, not, ◌&&◌, cond, List, ◌∷◌, ◌++◌, length, get_or, take, drop, Result, Ok, Err, sym, ap, ◌∙◌, arith}
 use Rattle.std.specs.Prelude.{slice_index, slice_range, codes}
 use Rattle.std.specs.Str.{bytes_eq}
 use Rattle.std.proofs.Math.Dec.{leb, eqb}
-use Rattle.std.specs.Int.{w64, to_be_bytes}
-use Rattle.std.proofs.lemmas.Bool.{leb-true, leb-false, le-leb, lt-leb, eqb-true, eqb-false, eq-eqb, ne_eqb, and_parts, and_from, not-false, not_from_true}
+use Rattle.std.specs.Int.{w64, to_be_bytes, from_be_bytes}
+use Rattle.std.proofs.lemmas.Bool.{cases_lt, leb-true, leb-false, le-leb, lt-leb, eqb-true, eqb-false, eq-eqb, ne_eqb, and_parts, and_from, not-false, not_from_true}
 use Rattle.std.proofs.lemmas.Slice.Eq.{bytes_eq-Decides}
-use Rattle.std.proofs.lemmas.List.{drop_more}
+use Rattle.std.proofs.lemmas.List.{drop_more, take_all, length-take-le, get_or-take}
 use Rattle.std.proofs.lemmas.Nat.{from_be_bytes-to_be_bytes_8}
 use Rattle.frs_segment.specs.Front.{header}
+use Rattle.frs_segment.specs.declared.fault.ScanFault.{ScanFault}
+use Rattle.frs_segment.specs.declared.fault.ScanFault.TheVariants.{HalfMade, BadHeader, NumberLimit}
 use Rattle.frs_segment.specs.Segments.{File, is_open_file}
 use Rattle.frs_segment.specs.Scanning.{field_at, header_of}
 use Rattle.frs_frame.proofs.Takes.{IsBytes}
-use Rattle.frs_segment.proofs.IsChunk.{cut, passed, ok, ok_is, number_back64}
+use Rattle.frs_segment.proofs.IsChunk.{cut, passed, ok, ok_is, number_front64, window}
 
 -- a header that has passed the tests
 pub record Headed (file : File) (first : ℕ) : Type 0 where
@@ -68,11 +70,41 @@ header_again file first h =
     let g : leb (2 ^ 62) lsn ≡ false = lt-leb _ _ (omega (arith, h.first_is, h.below)) in
     rw (a, b, c, d, f, g) (ap ok h.first_is)
 
-pub header_bytes : (file : File) (first : ℕ) → IsBytes file.1 → Headed file first → file.1 ≡ (1 ∷ header file.0 first) ++ drop 22 file.1
+-- the header is read off the first 23 bytes of the file
+abbrev header_by : ℕ → Bool → List ℕ → ℕ → ℕ → ℕ → Result ℕ ScanFault
+header_by number opened letters version own first =
+    cond (not opened) (Err HalfMade) (cond (not (bytes_eq letters (codes "FRSS"))) (Err (BadHeader 1)) (cond (not (eqb version 1)) (Err (BadHeader 5))
+    (cond (not (eqb own number)) (Err (BadHeader 6)) (cond (eqb first 0) (Err (BadHeader 14)) (cond (leb (2 ^ 62) first) (Err (NumberLimit first)) (Ok first))))))
+
+by_parts : (number : ℕ) (text : List ℕ) → length (take 23 text) ≡ 23 → 23 ≤ length text → header_of (number, take 23 text) ≡ header_of (number, text)
+unfolding header_of
+by_parts number text size long =
+    let opened : is_open_file (number, take 23 text) ≡ is_open_file (number, text) =
+    ap (λ (b : Bool). b && eqb (get_or (take 23 text) 0 0) 1) (le-leb 23 (length (take 23 text)) (omega (arith, size)) ∙ sym (le-leb 23 (length text) long))
+    ∙ ap (λ (g : ℕ). leb 23 (length text) && eqb g 1) (get_or-take 23 text 0 0 (omega arith)) in
+    let letters : take 4 (drop 1 (take 23 text)) ≡ take 4 (drop 1 text) = window 4 1 23 text (omega arith) in
+    let version : get_or (take 23 text) 5 0 ≡ get_or text 5 0 = get_or-take 23 text 5 0 (omega arith) in
+    let own : field_at w64 6 (take 23 text) ≡ field_at w64 6 text = ap (from_be_bytes w64) (window 8 6 23 text (omega arith)) in
+    let first : field_at w64 14 (take 23 text) ≡ field_at w64 14 text = ap (from_be_bytes w64) (window 8 14 23 text (omega arith)) in
+    ap (λ (x : Bool). header_by number x (take 4 (drop 1 (take 23 text))) (get_or (take 23 text) 5 0) (field_at w64 6 (take 23 text)) (field_at w64 14 (take 23 text))) opened
+    ∙ ap (λ (x : List ℕ). header_by number (is_open_file (number, text)) x (get_or (take 23 text) 5 0) (field_at w64 6 (take 23 text)) (field_at w64 14 (take 23 text))) letters
+    ∙ ap (λ (x : ℕ). header_by number (is_open_file (number, text)) (take 4 (drop 1 text)) x (field_at w64 6 (take 23 text)) (field_at w64 14 (take 23 text))) version
+    ∙ ap (λ (x : ℕ). header_by number (is_open_file (number, text)) (take 4 (drop 1 text)) (get_or text 5 0) x (field_at w64 14 (take 23 text))) own
+    ∙ ap (header_by number (is_open_file (number, text)) (take 4 (drop 1 text)) (get_or text 5 0) (field_at w64 6 text)) first
+
+pub header_alike : (number : ℕ) (text : List ℕ) → header_of (number, take 23 text) ≡ header_of (number, text)
+header_alike number text =
+    elim (cases_lt (length text) 23) [
+      | inl short ↦ ap (λ (x : List ℕ). header_of (number, x)) (take_all 23 text (omega arith))
+      | inr long ↦
+          by_parts number text (length-take-le 23 text long) long
+    ]
+
+pub header_bytes : (file : File) (first : ℕ) → IsBytes (take 23 file.1) → Headed file first → file.1 ≡ (1 ∷ header file.0 first) ++ drop 22 file.1
 header_bytes file first fits h =
     let text = file.1 in
-    let n : to_be_bytes w64 file.0 ≡ take 8 (drop 6 text) = ap (to_be_bytes w64) (sym h.number) ∙ number_back64 6 text fits (omega (arith, h.long)) in
-    let f : to_be_bytes w64 first ≡ take 8 (drop 14 text) = ap (to_be_bytes w64) (sym h.first_is) ∙ number_back64 14 text fits (omega (arith, h.long)) in
+    let n : to_be_bytes w64 file.0 ≡ take 8 (drop 6 text) = ap (to_be_bytes w64) (sym h.number) ∙ number_front64 23 6 text fits (omega arith) h.long in
+    let f : to_be_bytes w64 first ≡ take 8 (drop 14 text) = ap (to_be_bytes w64) (sym h.first_is) ∙ number_front64 23 14 text fits (omega arith) h.long in
     let behind : drop 6 text ≡ to_be_bytes w64 file.0 ++ (to_be_bytes w64 first ++ drop 22 text) =
     sym (ap (λ (x : List ℕ). x ++ (to_be_bytes w64 first ++ drop 22 text)) n ∙ ap (λ (x : List ℕ). take 8 (drop 6 text) ++ (x ++ drop 22 text)) f
     ∙ ap (λ (x : List ℕ). take 8 (drop 6 text) ++ x) (cut 8 14 text) ∙ cut 8 6 text) in

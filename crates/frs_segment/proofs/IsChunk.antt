@@ -1,9 +1,9 @@
 -- The head that is read stands there, and a chunk that stands there is read.
-use Rattle.std.proofs.Common.{◌≡◌, inl, inr, ℕ, ◌+◌, ◌^◌, ◌<◌, ◌≤◌, Bool, true, false, ◌&&◌, not, cond, List, ◌∷◌, ◌++◌, length, get_or, take, drop, Result, Ok, Err, refl, sym, ap, subst, ◌∙◌, take-append-drop, arith, IsTrue}
+use Rattle.std.proofs.Common.{◌≡◌, inl, inr, ℕ, ◌+◌, ◌-◌, ◌^◌, ◌<◌, ◌≤◌, Bool, true, false, ◌&&◌, not, cond, List, ◌∷◌, ◌++◌, length, get_or, take, drop, Result, Ok, Err, refl, sym, ap, subst, ◌∙◌, take-append-drop, arith, IsTrue}
 use Rattle.std.proofs.Math.Dec.{ltb, leb, eqb}
-use Rattle.std.specs.Int.{w32, w64, to_be_bytes}
+use Rattle.std.specs.Int.{w32, w64, to_be_bytes, from_be_bytes}
 use Rattle.std.proofs.lemmas.Bool.{cases_lt, ltb-false, le-ltb, leb-true, leb-false, le-leb, lt-leb, eqb-true, eq-eqb, and_parts, and_from, not-false, not_from_true}
-use Rattle.std.proofs.lemmas.List.{take_at, drop-drop, drop_more, length-append, length-take, length-drop, get_or-take, get_or_past}
+use Rattle.std.proofs.lemmas.List.{take_at, take-take, drop-take, drop-drop, drop_more, length-append, length-take, length-drop, get_or-take, get_or_past}
 use Rattle.std.proofs.lemmas.Nat.{be_bytes_4, be_bytes_8, from_be_bytes-to_be_bytes_4, from_be_bytes-to_be_bytes_8}
 use Rattle.frs_types.specs.declared.record.Record.{Record}
 use Rattle.frs_types.specs.Records.{are_allowed_from}
@@ -12,7 +12,7 @@ use Rattle.frs_segment.specs.declared.layout.ChunkPlace.{ChunkPlace}
 use Rattle.frs_segment.specs.declared.fault.ScanFault.{ScanFault}
 use Rattle.frs_segment.specs.declared.fault.ScanFault.TheVariants.{HalfMade, BadHeader, BadChunk, NumberLimit, Disk, Memory}
 use Rattle.frs_segment.specs.Segments.{body, chunk_bytes, is_chunk}
-use Rattle.frs_segment.specs.Scanning.{field_at, head_of, chunk_place, FillBody, IsChunk, RefusesChunk, RefusesRecords, TellsChunk}
+use Rattle.frs_segment.specs.Scanning.{field_at, head_of, head_told_by, chunk_place, FillBody, IsChunk, RefusesChunk, RefusesRecords}
 use Rattle.frs_segment.proofs.FillBody.{body_least}
 
 -- ---- tests
@@ -37,9 +37,30 @@ number_back32 at text fits le = be_bytes_4 (take 4 (drop at text)) (field_at w32
 pub number_back64 : (at : ℕ) (text : List ℕ) → IsBytes text → at + 8 ≤ length text → to_be_bytes w64 (field_at w64 at text) ≡ take 8 (drop at text)
 number_back64 at text fits le = be_bytes_8 (take 8 (drop at text)) (field_at w64 at text) (omega (arith, length-take 8 (drop at text), length-drop at text)) (word_byte 8 at text fits) refl
 
+-- what stands in a first part of a text stands in the text
+pub window : (n at most : ℕ) (text : List ℕ) → at + n ≤ most → take n (drop at (take most text)) ≡ take n (drop at text)
+window n at most text le =
+    let m : most ≡ at + (most - at) = omega (arith, le) in
+    ap (λ (x : ℕ). take n (drop at (take x text))) m ∙ ap (take n) (drop-take at (most - at) text) ∙ take-take n (most - at) (drop at text) (omega (arith, le))
+
+-- two texts that begin alike have the same windows there
+pub same_window : (n at most : ℕ) (a b : List ℕ) → at + n ≤ most → take most a ≡ take most b → take n (drop at a) ≡ take n (drop at b)
+same_window n at most a b le same = sym (window n at most a le) ∙ ap (λ (x : List ℕ). take n (drop at x)) same ∙ window n at most b le
+
 -- what stands from one offset to another, and behind it
 pub cut : (n at : ℕ) (text : List ℕ) → take n (drop at text) ++ drop (at + n) text ≡ drop at text
 cut n at text = ap (λ (x : List ℕ). take n (drop at text) ++ x) (sym (drop-drop n at text)) ∙ take-append-drop n (drop at text)
+
+-- the numbers of a text whose first part holds bytes
+pub number_front32 : (most at : ℕ) (text : List ℕ) → IsBytes (take most text) → at + 4 ≤ most → most ≤ length text → to_be_bytes w32 (field_at w32 at text) ≡ take 4 (drop at text)
+number_front32 most at text fits le long =
+    let same = window 4 at most text le in
+    ap (λ (x : List ℕ). to_be_bytes w32 (from_be_bytes w32 x)) (sym same) ∙ number_back32 at (take most text) fits (omega (arith, length-take most text, le, long)) ∙ same
+
+pub number_front64 : (most at : ℕ) (text : List ℕ) → IsBytes (take most text) → at + 8 ≤ most → most ≤ length text → to_be_bytes w64 (field_at w64 at text) ≡ take 8 (drop at text)
+number_front64 most at text fits le long =
+    let same = window 8 at most text le in
+    ap (λ (x : List ℕ). to_be_bytes w64 (from_be_bytes w64 x)) (sym same) ∙ number_back64 at (take most text) fits (omega (arith, length-take most text, le, long)) ∙ same
 
 -- ---- a chunk's head
 
@@ -97,14 +118,30 @@ head_again offset next behind place t =
     let g : ltb (2 ^ 62) (next + count) ≡ false = le-ltb _ _ t.within in
     rw (a, b, c, d, f, g) (ap ok (sym t.place_is))
 
+-- a head of which the first part is known
+pub head_alike : (offset next : ℕ) (front behind : List ℕ) → take 16 front ≡ take 16 behind
+    → head_of offset next behind ≡ head_told_by (length behind) offset next (field_at w32 0 front) (field_at w32 4 front) (field_at w64 8 front)
+unfolding head_of
+head_alike offset next front behind same =
+    let told : ℕ → ℕ → ℕ → Result ChunkPlace ScanFault = head_told_by (length behind) offset next in
+    let n : field_at w32 0 behind ≡ field_at w32 0 front = ap (from_be_bytes w32) (sym (same_window 4 0 16 front behind (omega arith) same)) in
+    let count : field_at w32 4 behind ≡ field_at w32 4 front = ap (from_be_bytes w32) (sym (same_window 4 4 16 front behind (omega arith) same)) in
+    let first : field_at w64 8 behind ≡ field_at w64 8 front = ap (from_be_bytes w64) (sym (same_window 8 8 16 front behind (omega arith) same)) in
+    ap (λ (x : ℕ). told x (field_at w32 4 behind) (field_at w64 8 behind)) n ∙ ap (λ (x : ℕ). told (field_at w32 0 front) x (field_at w64 8 behind)) count ∙ ap (told (field_at w32 0 front) (field_at w32 4 front)) first
+
+-- a file that ends before the head does
+pub head_short : (offset next : ℕ) (behind : List ℕ) → length behind ≤ 16 → head_of offset next behind ≡ Err (BadChunk offset)
+unfolding head_of
+head_short offset next behind le = rw (le-leb (length behind) 16 le) refl
+
 -- the bytes of a head that has passed the tests
-pub head_bytes : (offset next : ℕ) (behind : List ℕ) (place : ChunkPlace) → IsBytes behind → Told offset next behind place
+pub head_bytes : (offset next : ℕ) (behind : List ℕ) (place : ChunkPlace) → IsBytes (take 16 behind) → Told offset next behind place
     → behind ≡ to_be_bytes w32 place.body ++ (to_be_bytes w32 place.count ++ (to_be_bytes w64 place.first ++ drop 16 behind))
 head_bytes offset next behind place fits t =
     let len : 16 ≤ length behind = omega (arith, t.long) in
-    let n : to_be_bytes w32 place.body ≡ take 4 (drop 0 behind) = ap (λ (p : ChunkPlace). to_be_bytes w32 p.body) t.place_is ∙ number_back32 0 behind fits (omega arith) in
-    let count : to_be_bytes w32 place.count ≡ take 4 (drop 4 behind) = ap (λ (p : ChunkPlace). to_be_bytes w32 p.count) t.place_is ∙ number_back32 4 behind fits (omega arith) in
-    let first : to_be_bytes w64 place.first ≡ take 8 (drop 8 behind) = ap (λ (p : ChunkPlace). to_be_bytes w64 p.first) t.place_is ∙ ap (to_be_bytes w64) (sym t.there) ∙ number_back64 8 behind fits (omega arith) in
+    let n : to_be_bytes w32 place.body ≡ take 4 (drop 0 behind) = ap (λ (p : ChunkPlace). to_be_bytes w32 p.body) t.place_is ∙ number_front32 16 0 behind fits (omega arith) len in
+    let count : to_be_bytes w32 place.count ≡ take 4 (drop 4 behind) = ap (λ (p : ChunkPlace). to_be_bytes w32 p.count) t.place_is ∙ number_front32 16 4 behind fits (omega arith) len in
+    let first : to_be_bytes w64 place.first ≡ take 8 (drop 8 behind) = ap (λ (p : ChunkPlace). to_be_bytes w64 p.first) t.place_is ∙ ap (to_be_bytes w64) (sym t.there) ∙ number_front64 16 8 behind fits (omega arith) len in
     sym (ap (λ (x : List ℕ). x ++ (to_be_bytes w32 place.count ++ (to_be_bytes w64 place.first ++ drop 16 behind))) n
     ∙ ap (λ (x : List ℕ). take 4 (drop 0 behind) ++ (x ++ (to_be_bytes w64 place.first ++ drop 16 behind))) count
     ∙ ap (λ (x : List ℕ). take 4 (drop 0 behind) ++ (take 4 (drop 4 behind) ++ (x ++ drop 16 behind))) first
@@ -114,6 +151,10 @@ head_bytes offset next behind place fits t =
 
 -- ---- a chunk
 
+-- the chunk behind the open gate at the offset stands there
+abbrev pub TellsChunk : ℕ → ℕ → List ℕ → ChunkPlace → Type 0
+TellsChunk offset next behind place = (place.offset ≡ offset) × (place.first ≡ next) × ((rs : List Record) × IsChunk place (1 ∷ behind) rs)
+
 -- a chunk's bytes, as its gate, its head and its body
 abbrev pub chunk_parts : ℕ → List Record → List ℕ → List ℕ
 chunk_parts first rs rest = 1 ∷ (to_be_bytes w32 (length (body rs)) ++ (to_be_bytes w32 (length rs) ++ (to_be_bytes w64 first ++ (body rs ++ rest))))
@@ -122,7 +163,7 @@ pub chunk_parts_is : (first : ℕ) (rs : List Record) (rest : List ℕ) → chun
 chunk_parts_is first rs rest = refl
 
 -- the records that fill the body of a head make a chunk with it
-pub chunk_told : (offset next : ℕ) (behind : List ℕ) (place : ChunkPlace) (rs : List Record) → IsBytes behind → head_of offset next behind ≡ Ok place → FillBody place (take place.body (drop 16 behind)) rs
+pub chunk_told : (offset next : ℕ) (behind : List ℕ) (place : ChunkPlace) (rs : List Record) → IsBytes (take 16 behind) → head_of offset next behind ≡ Ok place → FillBody place (take place.body (drop 16 behind)) rs
     → (place.offset ≡ offset) × (place.first ≡ next) × IsChunk place (1 ∷ behind) rs
 chunk_told offset next behind place rs fits e fill =
     let t = head_told offset next behind place e in
@@ -209,21 +250,3 @@ not_refused offset first behind rs gate rest fault e is within refuses =
           let fill : FillBody (chunk_place offset first rs) (take (length (body rs)) (drop 16 behind)) rs = record { spelled = head.1; count_is = refl; allowed = (chunk_passes first rs is).all } in
           none rs (subst (λ (p : ChunkPlace). FillBody p (take p.body (drop 16 behind)) rs) place_is fill)
     ]
-
--- ---- what a call answers
-
-pub head_fails : (offset next : ℕ) (behind : List ℕ) (fault : ScanFault) → head_of offset next behind ≡ Err fault → TellsChunk offset next behind (Err fault)
-head_fails offset next behind HalfMade e = inl e
-head_fails offset next behind (BadHeader at) e = inl e
-head_fails offset next behind (BadChunk at) e = inl e
-head_fails offset next behind (NumberLimit lsn) e = inl e
-head_fails offset next behind Disk e = inl e
-head_fails offset next behind Memory e = tt
-
-pub records_fail : (offset next : ℕ) (behind : List ℕ) (place : ChunkPlace) (fault : ScanFault) → head_of offset next behind ≡ Ok place → RefusesRecords place (take place.body (drop 16 behind)) fault → TellsChunk offset next behind (Err fault)
-records_fail offset next behind place HalfMade e why = absurd why
-records_fail offset next behind place (BadHeader at) e why = absurd why
-records_fail offset next behind place (BadChunk at) e why = inr (place, e, ap BadChunk (why.0 ∙ ap (λ (p : ChunkPlace). p.offset) (head_told offset next behind place e).place_is), why.1)
-records_fail offset next behind place (NumberLimit lsn) e why = absurd why
-records_fail offset next behind place Disk e why = absurd why
-records_fail offset next behind place Memory e why = tt

@@ -93,3 +93,15 @@ file_blames file refused = let no = file_of_bytes file Disk refl refused in cc
 
 pub memory_blames : (file : File) → IsRefused file Memory → ⊥
 memory_blames file refused = let no = file_of_bytes file Memory refl refused in cc
+
+-- ---- by the heads alone
+
+pub head_never_half : (offset next : ℕ) (behind : List ℕ) → head_of offset next behind ≡ Err HalfMade → ⊥
+head_never_half offset next behind failed = let no = head_of_open offset next behind HalfMade failed in absurd cc
+
+pub shut_header : (file : File) → IsTrue (not (is_open_file file)) → header_of file ≡ Err HalfMade
+unfolding header_of
+shut_header file shut = rw shut refl
+
+pub header_not_half : (file : File) (first : ℕ) → header_of file ≡ Ok first → IsTrue (not (is_open_file file)) → ⊥
+header_not_half file first is shut = let half = shut_header file shut in absurd (cc (is, half))

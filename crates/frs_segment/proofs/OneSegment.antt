@@ -139,7 +139,7 @@ one_segment file s t is it =
     ] in
     segment_is s t (is.number ∙ sym it.number) first chunks
 
-failed_is : {A : Type 0} (r : Result A ScanFault) (f g : ScanFault) → r ≡ Err f → r ≡ Err g → f ≡ g
+pub failed_is : {A : Type 0} (r : Result A ScanFault) (f g : ScanFault) → r ≡ Err f → r ≡ Err g → f ≡ g
 failed_is r f g p q = cc
 
 refused_tail : (file : File) (fault : ScanFault) (r : RefusesBody file fault) → chunks_bytes r.before.first r.before.chunks ++ 1 ∷ r.behind ≡ drop 22 file.1

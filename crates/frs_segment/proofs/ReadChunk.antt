@@ -9,7 +9,7 @@ use Rattle.frs_segment.specs.declared.fault.ScanFault.TheVariants.{HalfMade, Bad
 use Rattle.frs_segment.specs.Segments.{body, chunk_bytes}
 use Rattle.frs_segment.specs.Faults.{GivesScanned}
 use Rattle.frs_segment.specs.Scanning.{head_of, chunk_place, FillBody, IsChunk, RefusesRecords, RefusesPlace}
-use Rattle.frs_frame.proofs.Takes.{IsBytes, IsBytes-drop}
+use Rattle.frs_frame.proofs.Takes.{IsBytes, IsBytes-drop, IsBytes-take}
 use Rattle.frs_segment.proofs.IsChunk.{chunk_told, head_of_chunk, chunk_passes}
 use Rattle.frs_segment.proofs.OneSegment.{one_chunk}
 
@@ -39,7 +39,7 @@ pub begun_chunk : (place : ChunkPlace) (text : List ℕ) (rs : List Record) → 
 begun_chunk place text rs fits some b =
     let behind : drop 16 (drop 1 text) ≡ drop 17 text = drop-drop 16 1 text in
     let records : FillBody place (take place.body (drop 16 (drop 1 text))) rs = subst (λ (x : List ℕ). FillBody place (take place.body x) rs) (sym behind) b.records in
-    let told = chunk_told place.offset place.first (drop 1 text) place rs (IsBytes-drop 1 text fits) b.head records in
+    let told = chunk_told place.offset place.first (drop 1 text) place rs (IsBytes-take 16 (drop 1 text) (IsBytes-drop 1 text fits)) b.head records in
     let whole : text ≡ 1 ∷ drop 1 text = drop_more text 0 0 (omega arith) ∙ ap (λ (g : ℕ). g ∷ drop 1 text) b.gate in
     subst (λ (x : List ℕ). IsChunk place x rs) (sym whole) told.2
 

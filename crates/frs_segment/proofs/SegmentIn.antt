@@ -1,5 +1,5 @@
 -- How far a file was read: chunk after chunk.
-use Rattle.std.proofs.Common.{◌&&◌, ◌≡◌, inl, inr, ℕ, ◌+◌, ◌^◌, ◌<◌, ◌≤◌, true, List, [], ◌∷◌, ◌++◌, length, get_or, drop, Ok, Err, refl, sym, ap, subst, ◌∙◌, append_assoc, arith, IsTrue}
+use Rattle.std.proofs.Common.{◌&&◌, ◌≡◌, inl, inr, ℕ, ◌+◌, ◌^◌, ◌<◌, ◌≤◌, true, List, [], ◌∷◌, ◌++◌, length, get_or, take, drop, Ok, Err, refl, sym, ap, subst, ◌∙◌, append_assoc, arith, IsTrue}
 use Rattle.std.specs.List.{flat_map}
 use Rattle.std.proofs.Math.Dec.{ltb, leb, eqb}
 use Rattle.std.proofs.lemmas.Bool.{lt-ltb, le-leb, ne_eqb, and_parts, and_from, not_from_false}
@@ -9,11 +9,12 @@ use Rattle.frs_types.specs.declared.record.Record.{Record}
 use Rattle.frs_segment.specs.declared.layout.ChunkPlace.{ChunkPlace}
 use Rattle.frs_segment.specs.declared.layout.Segment.{Segment}
 use Rattle.frs_segment.specs.declared.fault.ScanFault.{ScanFault}
-use Rattle.frs_segment.specs.declared.fault.ScanFault.TheVariants.{HalfMade, BadHeader, BadChunk, NumberLimit, Disk, Memory}
+use Rattle.frs_disk.specs.Disk.{IsNumber}
 use Rattle.frs_segment.specs.Front.{header}
 use Rattle.frs_segment.specs.Segments.{File, WholeSegment, body, chunk_bytes, chunks_bytes, segment_spelling, end_of, is_chunk, are_chunks}
-use Rattle.frs_segment.specs.Scanning.{header_of, chunk_place, places_from, RefusesChunk, IsRefused, TellsChunk, TellsFile}
+use Rattle.frs_segment.specs.Scanning.{header_of, chunk_place, places_from, RefusesChunk, IsRefused, TellsFile}
 use Rattle.frs_frame.proofs.Takes.{IsBytes}
+use Rattle.frs_segment.proofs.IsChunk.{TellsChunk}
 use Rattle.frs_segment.proofs.HeaderOf.{header_told, header_bytes}
 
 -- ---- chunks one after another
@@ -69,7 +70,7 @@ pub record Reached (file : File) (first : ℕ) (places : List ChunkPlace) (offse
   pub within : next ≤ 2 ^ 62
   pub inside : offset < length file.1
 
-pub reach_start : (file : File) (first : ℕ) → IsBytes file.1 → header_of file ≡ Ok first → Reached file first [] 22 first
+pub reach_start : (file : File) (first : ℕ) → IsBytes (take 23 file.1) → header_of file ≡ Ok first → Reached file first [] 22 first
 reach_start file first fits e =
     let h = header_told file first e in
     record {
@@ -91,7 +92,7 @@ at_gate text offset gate lt is = drop_more text offset 0 lt ∙ ap (λ (g : ℕ)
 pub spelling_len : (file : File) (first : ℕ) (chunks : List (List Record)) → length (segment_spelling (meant file first chunks)) ≡ 22 + length (chunks_bytes first chunks)
 spelling_len file first chunks = omega arith
 
-pub reach_more : (file : File) (first : ℕ) (places : List ChunkPlace) (offset next : ℕ) (place : ChunkPlace) → Reached file first places offset next → get_or file.1 offset 0 ≡ 1 → TellsChunk offset next (drop (offset + 1) file.1) (Ok place)
+pub reach_more : (file : File) (first : ℕ) (places : List ChunkPlace) (offset next : ℕ) (place : ChunkPlace) → Reached file first places offset next → get_or file.1 offset 0 ≡ 1 → TellsChunk offset next (drop (offset + 1) file.1) place
     → Reached file first (places ++ place ∷ []) (offset + (17 + place.body)) (next + place.count)
 reach_more file first places offset next place r is told =
     let rs = told.2.0 in
@@ -129,8 +130,8 @@ reach_more file first places offset next place r is told =
 
 -- the file ends where a gate is closed
 pub reach_end : (file : File) (first : ℕ) (places : List ChunkPlace) (offset next : ℕ) (found : Segment) → Reached file first places offset next → (get_or file.1 offset 0 ≡ 1 → ⊥)
-    → found ≡ record { number = file.0; first = first; «end» = next; length = offset + 1; chunks = places } → TellsFile file (Ok found)
-reach_end file first places offset next found r closed is number =
+    → IsNumber file.0 → found ≡ record { number = file.0; first = first; «end» = next; length = offset + 1; chunks = places } → TellsFile file (Ok found)
+reach_end file first places offset next found r closed number is =
     let s = meant file first r.chunks in
     let h = header_told file first r.header_is in
     let gate = get_or file.1 offset 0 in (
@@ -164,19 +165,3 @@ reach_refused file first places offset next fault r is refuses =
       within = omega (arith, r.within, r.next_is);
       chunk = subst (λ (n : ℕ). RefusesChunk (length (segment_spelling s)) n (drop (offset + 1) file.1) fault) r.next_is (subst (λ (o : ℕ). RefusesChunk o next (drop (offset + 1) file.1) fault) r.offset_is refuses);
     })
-
-pub reach_fault : (file : File) (first : ℕ) (places : List ChunkPlace) (offset next : ℕ) (fault : ScanFault) → Reached file first places offset next → get_or file.1 offset 0 ≡ 1 → TellsChunk offset next (drop (offset + 1) file.1) (Err fault) → TellsFile file (Err fault)
-reach_fault file first places offset next HalfMade r is told = reach_refused file first places offset next HalfMade r is told
-reach_fault file first places offset next (BadHeader at) r is told = reach_refused file first places offset next (BadHeader at) r is told
-reach_fault file first places offset next (BadChunk at) r is told = reach_refused file first places offset next (BadChunk at) r is told
-reach_fault file first places offset next (NumberLimit lsn) r is told = reach_refused file first places offset next (NumberLimit lsn) r is told
-reach_fault file first places offset next Disk r is told = reach_refused file first places offset next Disk r is told
-reach_fault file first places offset next Memory r is told = tt
-
-pub header_fault : (file : File) (fault : ScanFault) → header_of file ≡ Err fault → TellsFile file (Err fault)
-header_fault file HalfMade e = inl e
-header_fault file (BadHeader at) e = inl e
-header_fault file (BadChunk at) e = inl e
-header_fault file (NumberLimit lsn) e = inl e
-header_fault file Disk e = inl e
-header_fault file Memory e = tt

@@ -12,10 +12,10 @@ use Rattle.frs_segment.specs.declared.layout.ChunkPlace.{ChunkPlace}
 use Rattle.frs_segment.specs.declared.fault.ScanFault.{ScanFault}
 use Rattle.frs_segment.specs.declared.fault.ScanFault.TheVariants.{BadChunk}
 use Rattle.frs_segment.specs.Segments.{File, WholeSegment, IsSegment}
-use Rattle.frs_segment.specs.Scanning.{header_of, head_of, FillBody, RefusesChunk, IsRefused, TellsChunk, TellsRecord}
+use Rattle.frs_segment.specs.Scanning.{header_of, head_of, FillBody, RefusesChunk, IsRefused, TellsRecord}
 use Rattle.frs_segment.proofs.FillBody.{Stand, stand_more, stops, bytes_left, filled, no_other, allowed_fits, permitted}
 use Rattle.frs_frame.proofs.Takes.{IsBytes, IsBytes-drop, IsBytes-take}
-use Rattle.frs_segment.proofs.IsChunk.{head_told, chunk_told}
+use Rattle.frs_segment.proofs.IsChunk.{head_told, chunk_told, TellsChunk}
 use Rattle.frs_segment.proofs.SegmentIn.{Reached, reach_start, reach_more, reach_end, reach_refused}
 
 -- what a result is
@@ -66,7 +66,7 @@ fills place text limit fits = fills_from place.count place text [] 0 text limit 
 -- ---- one chunk
 
 abbrev ChunkOrRefused : ℕ → ℕ → List ℕ → Type 0
-ChunkOrRefused offset next behind = ((place : ChunkPlace) × TellsChunk offset next behind (Ok place)) ⊎ ((fault : ScanFault) × RefusesChunk offset next behind fault)
+ChunkOrRefused offset next behind = ((place : ChunkPlace) × TellsChunk offset next behind place) ⊎ ((fault : ScanFault) × RefusesChunk offset next behind fault)
 
 chunk_or_refused : (offset next : ℕ) (behind : List ℕ) → IsBytes behind → ChunkOrRefused offset next behind
 chunk_or_refused offset next behind fits =
@@ -75,7 +75,7 @@ chunk_or_refused offset next behind fits =
           let told = head_told offset next behind place e in
           let limit : place.first + place.count ≤ 2 ^ 62 = subst (λ (p : ChunkPlace). p.first + p.count ≤ 2 ^ 62) (sym told.place_is) told.within in
           elim (fills place (take place.body (drop 16 behind)) limit (IsBytes-take place.body (drop 16 behind) (IsBytes-drop 16 behind fits))) [
-            | inl (rs, fill) ↦ let t = chunk_told offset next behind place rs fits e fill in inl (place, (t.0, t.1, (rs, t.2)))
+            | inl (rs, fill) ↦ let t = chunk_told offset next behind place rs (IsBytes-take 16 behind fits) e fill in inl (place, (t.0, t.1, (rs, t.2)))
             | inr none ↦ inr (BadChunk offset, inr (place, e, refl, none))
           ]
       | inr (fault, e) ↦ inr (fault, inl e)
@@ -95,13 +95,13 @@ goes_on (suc left) file first places offset next number fits most r =
             goes_on left file first (places ++ place ∷ []) (offset + (17 + place.body)) (next + place.count) number fits (omega (arith, most)) (reach_more file first places offset next place r is told)
         | inr (fault, refuses) ↦ inr (fault, reach_refused file first places offset next fault r is refuses)
       ]
-      | inr closed ↦ let (s, is, e) = reach_end file first places offset next _ r closed refl number in inl (s, is)
+      | inr closed ↦ let (s, is, e) = reach_end file first places offset next _ r closed number refl in inl (s, is)
     ]
 
 pub segment_or_refused : (file : File) → IsNumber file.0 → IsBytes file.1 → SegmentOrRefused file
 segment_or_refused file number fits =
     elim (which (header_of file)) [
-      | inl (first, e) ↦ goes_on (length file.1) file first [] 22 first number fits (omega arith) (reach_start file first fits e)
+      | inl (first, e) ↦ goes_on (length file.1) file first [] 22 first number fits (omega arith) (reach_start file first (IsBytes-take 23 file.1 fits) e)
       | inr (fault, e) ↦ inr (fault, inl e)
     ]
 

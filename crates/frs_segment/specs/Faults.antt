@@ -29,3 +29,9 @@ GivesScanned view (Err (BadChunk offset)) meant = meant ≡ Err (BadChunk offset
 GivesScanned view (Err (NumberLimit lsn)) meant = meant ≡ Err (NumberLimit lsn)
 GivesScanned view (Err Disk) meant = Unit {0}
 GivesScanned view (Err Memory) meant = Unit {0}
+
+-- the fault is of what was read, and neither the disk's nor memory's
+abbrev pub IsOfText : ScanFault → Type 0
+IsOfText Disk = ⊥
+IsOfText Memory = ⊥
+IsOfText fault = Unit {0}

@@ -53,20 +53,24 @@ header_of file =
     if nat_le NUMBER_LIMIT (field_at w64 14 file.1) then Err (NumberLimit (field_at w64 14 file.1)) else
     Ok (field_at w64 14 file.1)
 
--- The chunk whose open gate stands at the offset, as its head tells it, where the LSN that follows on is next. Before
--- its records are looked at: its bytes and the gate behind them are there, its count, its length and its first LSN are
--- as they should be, and its LSNs are within the limit.
+-- What the three fields of a head tell of the chunk whose open gate stands at the offset, where the LSN that follows on
+-- is next and the file has so many bytes behind that gate. Before the chunk's records are looked at: its bytes and the
+-- gate behind them are there, its count, its length and its first LSN are as they should be, and its LSNs are within
+-- the limit.
+abbrev pub head_told_by : ℕ → ℕ → ℕ → ℕ → ℕ → ℕ → Result ChunkPlace ScanFault
+head_told_by bytes_behind offset next body_length count first =
+    if nat_le bytes_behind CHUNK_HEAD then Err (BadChunk offset) else
+    if nat_le bytes_behind (CHUNK_HEAD + body_length) then Err (BadChunk offset) else
+    if not (nat_le 1 count && nat_le count MOST_RECORDS) then Err (BadChunk offset) else
+    if not (nat_le 1 body_length && nat_le body_length BODY_LIMIT) then Err (BadChunk offset) else
+    if not (first == next) then Err (BadChunk offset) else
+    if nat_lt NUMBER_LIMIT (next + count) then Err (NumberLimit NUMBER_LIMIT) else
+    Ok (record { offset = offset; first = next; count = count; body = body_length })
+
+-- what the head behind the open gate at the offset tells, or what is wrong first
 unfoldable pub head_of : ℕ → ℕ → List ℕ → Result ChunkPlace ScanFault
 head_of offset next behind =
-    if nat_le (length behind) CHUNK_HEAD then Err (BadChunk offset) else
-    if nat_le (length behind) (CHUNK_HEAD + field_at w32 0 behind) then Err (BadChunk offset) else
-    if not (nat_le 1 (field_at w32 4 behind) && nat_le (field_at w32 4 behind) MOST_RECORDS)
-    then Err (BadChunk offset) else
-    if not (nat_le 1 (field_at w32 0 behind) && nat_le (field_at w32 0 behind) BODY_LIMIT)
-    then Err (BadChunk offset) else
-    if not (field_at w64 8 behind == next) then Err (BadChunk offset) else
-    if nat_lt NUMBER_LIMIT (next + field_at w32 4 behind) then Err (NumberLimit NUMBER_LIMIT) else
-    Ok (record { offset = offset; first = next; count = field_at w32 4 behind; body = field_at w32 0 behind })
+    head_told_by (length behind) offset next (field_at w32 0 behind) (field_at w32 4 behind) (field_at w64 8 behind)
 
 -- ---- a chunk's records
 
@@ -113,24 +117,16 @@ IsRefused file fault = (header_of file ≡ Err fault) ⊎ RefusesBody file fault
 
 -- ---- what a call that reads has answered
 
--- the segment that the file is, or what is wrong first; want of memory is free
-abbrev pub TellsFile : File → Result Segment ScanFault → Type 0
-TellsFile file (Ok found) = IsNumber file.0 → (s : WholeSegment) × IsSegment file s × (found ≡ places_of_segment s)
-TellsFile file (Err Memory) = Unit {0}
-TellsFile file (Err fault) = IsRefused file fault
-
 -- Why a call that reads the file has answered a fault: this is wrong first. The disk and memory are free.
 abbrev pub IsCauseInFile : File → ScanFault → Type 0
 IsCauseInFile file Disk = Unit {0}
 IsCauseInFile file Memory = Unit {0}
 IsCauseInFile file fault = IsRefused file fault
 
--- the place of the chunk behind the open gate at the offset, or what is wrong first; want of memory is free
-abbrev pub TellsChunk : ℕ → ℕ → List ℕ → Result ChunkPlace ScanFault → Type 0
-TellsChunk offset next behind (Ok place) =
-    (place.offset ≡ offset) × (place.first ≡ next) × ((rs : List Record) × IsChunk place (1 ∷ behind) rs)
-TellsChunk offset next behind (Err Memory) = Unit {0}
-TellsChunk offset next behind (Err fault) = RefusesChunk offset next behind fault
+-- the segment that the file is, or what is wrong first; the disk and memory are free
+abbrev pub TellsFile : File → Result Segment ScanFault → Type 0
+TellsFile file (Ok found) = (s : WholeSegment) × IsSegment file s × (found ≡ places_of_segment s)
+TellsFile file (Err fault) = IsCauseInFile file fault
 
 -- Why the bytes aren't the records that the place tells; want of memory is free.
 abbrev pub RefusesRecords : ChunkPlace → List ℕ → ScanFault → Type 0

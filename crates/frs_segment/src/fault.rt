@@ -1,7 +1,8 @@
 //! Why a file, or a chunk in it, couldn't be read as a segment.
-ghost use Rattle.std.specs.Prelude.{◌≡◌};
+ghost use Rattle.std.specs.Prelude.{◌≡◌, Some};
 ghost use Rattle.frs_segment.specs.declared.fault.ScanFault.TheVariants.{Memory};
 ghost use Rattle.frs_segment.specs.Faults.{scan_fault_of};
+ghost use Rattle.frs_segment.specs.Refusals.{scan_fault_text};
 
 use frs_disk::Fault;
 use frs_types::NoMemory;
@@ -36,6 +37,8 @@ pub enum ScanFault {
 }
 
 impl fmt::Display for ScanFault {
+    ghost output = { λ fault. Some (scan_fault_text fault) };
+
     fn fmt<W: fmt::Write>(&self, f: &mut fmt::Formatter<W>) -> fmt::Result {
         match self {
             ScanFault::HalfMade => write!(f, "the file was never finished"),

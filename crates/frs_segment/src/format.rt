@@ -1,10 +1,11 @@
-//! The fixed parts of a segment file: its header and the head of a chunk, how they are spelled and how they are read, and
-//! the lengths and limits of the format.
-ghost use Rattle.std.specs.Prelude.{◌≡◌, ◌+◌, ◌<◌, ◌≤◌, IfOk, length, slice_range, codes};
+//! The fixed parts of a segment file: its header and the head of a chunk, how they are spelled and how they are read,
+//! and the lengths and limits of the format.
+ghost use Rattle.std.specs.Prelude.{◌≡◌, ◌+◌, ◌<◌, ◌≤◌, ℕ, List, All, IfOk, IfErr, length, take, slice_range, codes};
 ghost use Rattle.std.specs.Int.{w32, w64};
 ghost use Rattle.std.specs.Str.{bytes_eq};
+ghost use Rattle.frs_segment.specs.Faults.{IsOfText};
 ghost use Rattle.frs_segment.specs.Front.{closed_header, chunk_head};
-ghost use Rattle.frs_segment.specs.Scanning.{field_at, header_of, head_of};
+ghost use Rattle.frs_segment.specs.Scanning.{field_at, header_of, head_of, head_told_by};
 
 use crate::fault::ScanFault;
 use crate::layout::ChunkPlace;
@@ -27,6 +28,10 @@ pub const BODY_LIMIT: usize = 1 << 20;
 
 /// The length of a segment file, in bytes, from which on no chunk is added: 1 MiB.
 pub const FILE_LIMIT: u64 = 1 << 20;
+
+/// The most bytes that reading a segment asks the disk for at once: the longest body, the gate and the head before
+/// it, and the gate behind it.
+pub const WIDEST: u64 = 1_048_594;
 
 // The bytes of a segment behind its gate, up to and with the closed gate of its first chunk.
 pub(crate) fn header(number: u64, first: u64) -> [u8; HEADER_LENGTH - 1]
@@ -84,7 +89,11 @@ fn has_letters(bytes: &[u8]) -> bool
 // The first LSN that the header of a file names, or what is wrong with it first.
 #[tactic(auto, unfolding(crate::specs::Scanning::header_of))]
 pub(crate) fn header_at(bytes: &[u8], number: u64) -> Result<u64, ScanFault>
-    ensures { result ≡ header_of (number, bytes.now) }
+    ensures told { result ≡ header_of (number, bytes.now) }
+    ensures some { IfOk result (λ first. 1 ≤ first) }
+    ensures below { IfOk result (λ first. first < NUMBER_LIMIT) }
+    ensures of_text { IfErr result IsOfText }
+    ensures bytes { All (λ b. b < 256) bytes.now }
 {
     if bytes.len() < HEADER_LENGTH || bytes[0] != 1 {
         return Err(ScanFault::HalfMade);
@@ -108,30 +117,36 @@ pub(crate) fn header_at(bytes: &[u8], number: u64) -> Result<u64, ScanFault>
     Ok(first)
 }
 
-// What the head of a chunk tells, whose open gate stands at the offset and whose first LSN should be the next one; or
-// what is wrong with it first. `behind` is what the file holds behind that gate.
-#[tactic(auto, unfolding(crate::specs::Scanning::head_of))]
-pub(crate) fn head_at(behind: &[u8], offset: u64, next: u64) -> Result<ChunkPlace, ScanFault>
-    ensures told { result ≡ head_of offset next behind.now }
-    ensures there { IfOk result (λ place. CHUNK_HEAD + place.body < length behind.now) }
+// What the three fields of a chunk's head tell, whose open gate stands at the offset and whose first LSN should be the
+// next one; or what is wrong with it first. The file has so many bytes behind that gate.
+fn told_head(
+    bytes_behind: u64,
+    offset: u64,
+    next: u64,
+    body: u32,
+    count: u32,
+    first: u64,
+) -> Result<ChunkPlace, ScanFault>
+    ensures told { result ≡ head_told_by bytes_behind offset next body count first }
+    ensures there { IfOk result (λ place. CHUNK_HEAD + place.body < bytes_behind) }
+    ensures offset { IfOk result (λ place. place.offset ≡ offset) }
     ensures first { IfOk result (λ place. place.first ≡ next) }
     ensures within { IfOk result (λ place. next + place.count ≤ NUMBER_LIMIT) }
+    ensures of_text { IfErr result IsOfText }
 {
-    if behind.len() <= CHUNK_HEAD {
+    if bytes_behind <= CHUNK_HEAD as u64 {
         return Err(ScanFault::BadChunk { offset });
     }
-    let body = u32_at(behind, 0);
-    if behind.len() <= CHUNK_HEAD + body as usize {
+    if bytes_behind <= CHUNK_HEAD as u64 + u64::from(body) {
         return Err(ScanFault::BadChunk { offset });
     }
-    let count = u32_at(behind, 4);
     if count == 0 || count > MOST_RECORDS {
         return Err(ScanFault::BadChunk { offset });
     }
     if body == 0 || body as usize > BODY_LIMIT {
         return Err(ScanFault::BadChunk { offset });
     }
-    if u64_at(behind, 8) != next {
+    if first != next {
         return Err(ScanFault::BadChunk { offset });
     }
     if next > NUMBER_LIMIT - u64::from(count) {
@@ -143,4 +158,35 @@ pub(crate) fn head_at(behind: &[u8], offset: u64, next: u64) -> Result<ChunkPlac
         count,
         body,
     })
+}
+
+// What the head of a chunk tells, whose open gate stands at the offset and whose first LSN should be the next one; or
+// what is wrong with it first. `front` begins with what the file holds behind that gate, as far as a head goes, and the
+// file has so many bytes behind it.
+pub(crate) fn head_at(
+    front: &[u8],
+    bytes_behind: u64,
+    offset: u64,
+    next: u64,
+) -> Result<ChunkPlace, ScanFault>
+    ensures told { (behind : List ℕ) → take CHUNK_HEAD front.now ≡ take CHUNK_HEAD behind
+        → bytes_behind ≡ length behind → result ≡ head_of offset next behind }
+    ensures there { IfOk result (λ place. CHUNK_HEAD + place.body < bytes_behind) }
+    ensures offset { IfOk result (λ place. place.offset ≡ offset) }
+    ensures first { IfOk result (λ place. place.first ≡ next) }
+    ensures within { IfOk result (λ place. next + place.count ≤ NUMBER_LIMIT) }
+    ensures of_text { IfErr result IsOfText }
+    ensures bytes { All (λ b. b < 256) front.now }
+{
+    if front.len() < CHUNK_HEAD {
+        return Err(ScanFault::BadChunk { offset });
+    }
+    told_head(
+        bytes_behind,
+        offset,
+        next,
+        u32_at(front, 0),
+        u32_at(front, 4),
+        u64_at(front, 8),
+    )
 }

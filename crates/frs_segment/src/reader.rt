@@ -1,20 +1,23 @@
-//! Reading a store's disk: a whole segment, or one chunk of it.
+//! Reading a store's disk: a whole segment, one chunk after the other; the heads of its chunks alone; or one chunk of
+//! it.
 ghost use Rattle.std.specs.Prelude.{◌≡◌, ◌+◌, ◌<◌, ◌≤◌, ◌^◌, ◌↔◌, ℕ, List, Ok, Err, length, drop, slice_index, IsTrue, IfOk, IfErr};
 ghost use Rattle.std.specs.Bool.{OnTrue};
 ghost use Rattle.frs_types.specs.declared.record.Record.{Record};
-ghost use Rattle.frs_disk.specs.Disk.{bytes_at, IsNumber, HasCause};
-ghost use Rattle.frs_disk.specs.Frames.{IsThere, OnlyReads};
+ghost use Rattle.frs_disk.specs.Disk.{bytes_at, IsNumber};
+ghost use Rattle.frs_disk.specs.Frames.{IsThere, OnlyReads, ReadsNoWider};
 ghost use Rattle.frs_segment.specs.declared.fault.ScanFault.{ScanFault};
 ghost use Rattle.frs_segment.specs.Segments.{WholeSegment, IsSegment};
+ghost use Rattle.frs_segment.specs.declared.layout.Segment.{Segment};
 ghost use Rattle.frs_segment.specs.Faults.{HasScanCause, GivesScanned};
-ghost use Rattle.frs_segment.specs.Scanning.{head_of, places_of_segment, IsChunk, IsRefused, IsCauseInFile, IsFaultAt, RefusesPlace};
+ghost use Rattle.frs_segment.specs.Scanning.{head_of, places_of_segment, IsChunk, IsRefused, IsCauseInFile, IsFaultAt, RefusesPlace, TellsFile};
+ghost use Rattle.frs_segment.specs.Heads.{HasHeads, HasHeaderBytes, IsInLine, IsRefusedByHeads, IsCauseInHeads, TellsHeads};
 
 use crate::fault::ScanFault;
-use crate::format::{BODY_LIMIT, CHUNK_FRONT, head_at};
+use crate::format::{BODY_LIMIT, CHUNK_FRONT, HEADER_LENGTH, WIDEST, head_at};
 use crate::layout::{ChunkPlace, Segment};
-use crate::parser::segment_in;
 use crate::records::records_of;
-use frs_disk::{Disk, Fault};
+use crate::walk::Walk;
+use frs_disk::Disk;
 use frs_types::{NUMBER_LIMIT, Record};
 use std::alloc::Global;
 
@@ -53,22 +56,86 @@ pub fn scan<D: Disk>(alloc: Global, disk: &mut D, number: u64) -> Result<Segment
         → GivesScanned (λ found. found) result (Err fault) }
 
     ensures frame { OnlyReads D.Disk disk.old disk.new }
+    ensures width { ReadsNoWider D.Disk WIDEST disk.old disk.new }
     ensures cause { HasScanCause (D.faults disk.old) (D.faults disk.new) result }
 {
-    let bytes = read_whole(alloc, disk, number)?;
-    segment_in(alloc, number, bytes.as_slice())
+    follow_chunks(alloc, disk, number)
 }
 
-// All bytes of a file.
-fn read_whole<D: Disk>(alloc: Global, disk: &mut D, number: u64) -> Result<Vec<u8>, Fault>
+// The segment that a file is: of each chunk the head is read, and then the records.
+fn follow_chunks<D: Disk>(alloc: Global, disk: &mut D, number: u64) -> Result<Segment, ScanFault>
     requires there { IsThere D.Disk disk.old number }
-    ensures bytes { IfOk result (λ bytes. IsTrue (D.tells disk.old)
-        → bytes.items ≡ bytes_at (D.reads disk.old) number) }
+    ensures told { IsTrue (D.tells disk.old)
+        → TellsFile (number, bytes_at (D.reads disk.old) number) result }
+    ensures meant { IfOk result (λ found. IsNumber number
+        → (bytes : List ℕ) × (s : WholeSegment) × IsSegment (number, bytes) s
+        × (found ≡ places_of_segment s)) }
     ensures frame { OnlyReads D.Disk disk.old disk.new }
-    ensures cause { HasCause (D.faults disk.old) (D.faults disk.new) result }
+    ensures width { ReadsNoWider D.Disk WIDEST disk.old disk.new }
+    ensures cause { HasScanCause (D.faults disk.old) (D.faults disk.new) result }
 {
-    let length = disk.length(number)?;
-    disk.read(alloc, number, 0, length)
+    let mut walk = Walk::begin(alloc, disk, number)?;
+    while let Some(place) = walk.head(alloc, disk)? {
+        let _records = read_chunk(alloc, disk, number, &place)?;
+        walk.pass(place)?;
+    }
+    Ok(walk.into_segment())
+}
+
+/// Reads the heads of a segment's chunks, from its front to its first closed chunk gate, and none of their records:
+/// it gives the segment's number, its LSNs, its length and the places of its chunks. The file has to be there.
+/// Nothing on the disk changes.
+///
+/// It makes the tests of `scan`, in their order, but for the last one, which looks at records; the fault is what is
+/// wrong first. `Disk` and `Memory` may come instead. A file of any length is read in pieces of at most 23 bytes.
+pub fn heads<D: Disk>(alloc: Global, disk: &mut D, number: u64) -> Result<Segment, ScanFault>
+    requires there { IsThere D.Disk disk.old number }
+
+    // What is told are the places of the chunks by their heads.
+    ensures found { IfOk result (λ found. IsTrue (D.tells disk.old)
+        → HasHeads (number, bytes_at (D.reads disk.old) number) found) }
+    ensures bytes { IfOk result (λ found. IsTrue (D.tells disk.old)
+        → HasHeaderBytes (number, bytes_at (D.reads disk.old) number)) }
+
+    // They stand one behind the other also where the disk doesn't tell the file.
+    ensures meant { IfOk result (λ found. (found.number ≡ number) × IsInLine found) }
+
+    // If the file has these heads, they are told, unless the disk or memory fails.
+    ensures only { IsTrue (D.tells disk.old) → (found : Segment)
+        → HasHeads (number, bytes_at (D.reads disk.old) number) found
+        → GivesScanned (λ told. told) result (Ok found) }
+
+    // Which fault it is: that which is first.
+    ensures why { IsTrue (D.tells disk.old)
+        → IfErr result (IsCauseInHeads (number, bytes_at (D.reads disk.old) number)) }
+    ensures refused { IsTrue (D.tells disk.old) → (fault : ScanFault)
+        → IsRefusedByHeads (number, bytes_at (D.reads disk.old) number) fault
+        → GivesScanned (λ told. told) result (Err fault) }
+
+    ensures frame { OnlyReads D.Disk disk.old disk.new }
+    ensures width { ReadsNoWider D.Disk HEADER_LENGTH disk.old disk.new }
+    ensures cause { HasScanCause (D.faults disk.old) (D.faults disk.new) result }
+{
+    follow_heads(alloc, disk, number)
+}
+
+// The places of a segment's chunks by their heads.
+fn follow_heads<D: Disk>(alloc: Global, disk: &mut D, number: u64) -> Result<Segment, ScanFault>
+    requires there { IsThere D.Disk disk.old number }
+    ensures told { IsTrue (D.tells disk.old)
+        → TellsHeads (number, bytes_at (D.reads disk.old) number) result }
+    ensures bytes { IfOk result (λ found. IsTrue (D.tells disk.old)
+        → HasHeaderBytes (number, bytes_at (D.reads disk.old) number)) }
+    ensures meant { IfOk result (λ found. (found.number ≡ number) × IsInLine found) }
+    ensures frame { OnlyReads D.Disk disk.old disk.new }
+    ensures width { ReadsNoWider D.Disk HEADER_LENGTH disk.old disk.new }
+    ensures cause { HasScanCause (D.faults disk.old) (D.faults disk.new) result }
+{
+    let mut walk = Walk::begin(alloc, disk, number)?;
+    while let Some(place) = walk.head(alloc, disk)? {
+        walk.pass(place)?;
+    }
+    Ok(walk.into_segment())
 }
 
 /// Reads the records of a chunk, whose place a scan has told. The file has to be there. Nothing on the disk changes.
@@ -102,6 +169,7 @@ pub fn read_chunk<D: Disk>(
     ensures why { IfErr result (IsFaultAt place.now) }
 
     ensures frame { OnlyReads D.Disk disk.old disk.new }
+    ensures width { ReadsNoWider D.Disk WIDEST disk.old disk.new }
     ensures cause { HasScanCause (D.faults disk.old) (D.faults disk.new) result }
 {
     if place.body as usize > BODY_LIMIT {
@@ -136,7 +204,7 @@ fn has_head(text: &[u8], place: &ChunkPlace) -> bool
     ensures within { OnTrue result (place.now.first + place.now.count ≤ NUMBER_LIMIT) }
 {
     match text {
-        [1, behind @ ..] => match head_at(behind, place.offset, place.first) {
+        [1, behind @ ..] => match head_at(behind, behind.len() as u64, place.offset, place.first) {
             Ok(told) => told == *place,
             Err(_) => false,
         },

@@ -14,8 +14,8 @@ use frs_disk::{Disk, Fault};
 /// in eight bytes from the highest on, and the closed gate 0 of the first chunk. The number and the LSN are from 1 to
 /// 2^62 - 1; the file isn't there, and no removal of it is pending.
 ///
-/// After Ok the whole file is durable. `Failed` and `Memory` leave no file, a half-made one or the whole segment, and so
-/// does a crash in the call.
+/// After Ok the whole file is durable. `Failed` and `Memory` leave no file, a half-made one or the whole segment, and
+/// so does a crash in the call.
 pub fn open_segment<D: Disk>(disk: &mut D, number: u64, first: u64) -> Result<(), Fault>
     requires in_range { IsNumber number }
     requires first { IsNumber first }
@@ -37,10 +37,12 @@ pub fn open_segment<D: Disk>(disk: &mut D, number: u64, first: u64) -> Result<()
     open_gate(disk, number, 0)
 }
 
-/// Writes the bytes behind a closed gate, which stands at that offset in the file, over what is there and past the file's
-/// end. They are a chunk's head and body and the closed gate of the next chunk; the gate before them stays closed.
+/// Writes the bytes behind a closed gate, which stands at that offset in the file, over what is there and past the
+/// file's end. They are a chunk's head and body and the closed gate of the next chunk; the gate before them stays
+/// closed.
 ///
-/// After Ok the file is durable. `Failed` and `Memory` leave any bytes behind the gate, and so does a crash in the call.
+/// After Ok the file is durable. `Failed` and `Memory` leave any bytes behind the gate, and so does a crash in the
+/// call.
 pub fn put_body<D: Disk>(disk: &mut D, number: u64, gate_at: u64, body: &[u8]) -> Result<(), Fault>
     requires gate { IsTrue (D.tells disk.old)
         → gate_at < length (bytes_at (D.reads disk.old) number) }

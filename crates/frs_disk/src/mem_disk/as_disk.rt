@@ -1,5 +1,5 @@
 // A disk in memory as a disk.
-ghost use Rattle.std.specs.Prelude.{◌≡◌, ◌⊎◌, ◌≤◌, ℕ, [], true, Some, None, length, take, drop, IsSome, IfOk, OnOk, All};
+ghost use Rattle.std.specs.Prelude.{◌≡◌, ◌⊎◌, ◌≤◌, ℕ, [], true, Some, None, length, take, drop, IsSome, IfOk, OnOk, All, max};
 ghost use Rattle.std.proofs.Common.{sym, ◌∙◌, subst, ap};
 ghost use Rattle.std.specs.FinMap.{get, keys, same_entries_map};
 ghost use Rattle.std.specs.List.Sorted.{IsStrictlyIncreasing};
@@ -7,7 +7,7 @@ ghost use Rattle.frs_disk.specs.Disk.{Image, bytes_at, bytes_after_write, IsNumb
 ghost use Rattle.frs_disk.specs.Calls.{image_after_calls, MayLeave};
 ghost use Rattle.frs_disk.specs.RecordLaws.{held_numbered};
 ghost use Rattle.frs_disk.specs.RecordLaws.{now_counts, now_only, earlier_since, read_leaves, absent_stays};
-ghost use Rattle.frs_disk.specs.Plans.{start_of, files_of, record_of, faults_of, left_by, left_since_by, moment_of, removed_on, Plays};
+ghost use Rattle.frs_disk.specs.Plans.{start_of, files_of, record_of, faults_of, widest_of, left_by, left_since_by, moment_of, removed_on, Plays};
 
 use super::MemDisk;
 use crate::calls::Call;
@@ -30,6 +30,8 @@ impl Disk for MemDisk {
     ghost removing = { removed_on };
 
     ghost faults = { faults_of };
+
+    ghost widest = { widest_of };
 
     ghost counts_now = { λ m t c le leaves. now_counts (start_of m) (record_of m) t c le leaves };
 
@@ -55,6 +57,7 @@ impl Disk for MemDisk {
         ensures pending { (n : ℕ) → removed_on self.new n → removed_on self.old n }
         ensures crash { Keeps (left_by self.old) (left_by self.new) }
         ensures time { Elapses moment_of left_since_by left_by self.old self.new }
+        ensures width { widest_of self.new ≡ widest_of self.old }
         ensures cause { HasCause (faults_of self.old) (faults_of self.new) result }
         ensures plays { Plays Call.Segments self.old self.new result }
     {
@@ -72,6 +75,7 @@ impl Disk for MemDisk {
         ensures pending { (n : ℕ) → removed_on self.new n → removed_on self.old n }
         ensures crash { Follows (ChangesFile number Created) (left_by self.old) (left_by self.new) }
         ensures time { Elapses moment_of left_since_by left_by self.old self.new }
+        ensures width { widest_of self.new ≡ widest_of self.old }
         ensures cause { HasCause (faults_of self.old) (faults_of self.new) result }
         ensures plays { Plays (Call.Create number) self.old self.new result }
     {
@@ -86,6 +90,7 @@ impl Disk for MemDisk {
         ensures pending { (n : ℕ) → removed_on self.new n → removed_on self.old n }
         ensures crash { Keeps (left_by self.old) (left_by self.new) }
         ensures time { Elapses moment_of left_since_by left_by self.old self.new }
+        ensures width { widest_of self.new ≡ widest_of self.old }
         ensures cause { HasCause (faults_of self.old) (faults_of self.new) result }
         ensures plays { Plays (Call.Length number) self.old self.new result }
     {
@@ -102,9 +107,11 @@ impl Disk for MemDisk {
         ensures pending { (n : ℕ) → removed_on self.new n → removed_on self.old n }
         ensures crash { Keeps (left_by self.old) (left_by self.new) }
         ensures time { Elapses moment_of left_since_by left_by self.old self.new }
+        ensures width { widest_of self.new ≡ max (widest_of self.old) room }
         ensures cause { HasCause (faults_of self.old) (faults_of self.new) result }
         ensures plays { Plays (Call.Read number at room) self.old self.new result }
     {
+        self.widest = self.widest.max(room);
         let bytes = part(file_of(&self.files, number), at, room).to_vec(alloc)?;
         self.ask(Call::Read { number, at, room })?;
         Ok(bytes)
@@ -121,6 +128,7 @@ impl Disk for MemDisk {
         ensures crash { Follows (ChangesFile number (OnFile (Torn at (length bytes.now))))
             (left_by self.old) (left_by self.new) }
         ensures time { Elapses moment_of left_since_by left_by self.old self.new }
+        ensures width { widest_of self.new ≡ widest_of self.old }
         ensures cause { HasCause (faults_of self.old) (faults_of self.new) result }
         ensures plays { Plays (Call.Write number at bytes.now) self.old self.new result }
     {
@@ -140,6 +148,7 @@ impl Disk for MemDisk {
         ensures pending { (n : ℕ) → removed_on self.new n → removed_on self.old n }
         ensures crash { Keeps (left_by self.old) (left_by self.new) }
         ensures time { Elapses moment_of left_since_by left_by self.old self.new }
+        ensures width { widest_of self.new ≡ widest_of self.old }
         ensures cause { HasCause (faults_of self.old) (faults_of self.new) result }
         ensures plays { Plays (Call.Sync number) self.old self.new result }
     {
@@ -153,6 +162,7 @@ impl Disk for MemDisk {
         ensures pending { (n : ℕ) → removed_on self.new n → removed_on self.old n ⊎ (n ≡ number) }
         ensures crash { Follows (ChangesFile number Removed) (left_by self.old) (left_by self.new) }
         ensures time { Elapses moment_of left_since_by left_by self.old self.new }
+        ensures width { widest_of self.new ≡ widest_of self.old }
         ensures cause { HasCause (faults_of self.old) (faults_of self.new) result }
         ensures plays { Plays (Call.Remove number) self.old self.new result }
     {

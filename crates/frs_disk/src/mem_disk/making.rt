@@ -7,8 +7,8 @@ ghost use Rattle.std.specs.Ordering.{nat_cmp};
 ghost use Rattle.frs_disk.specs.Disk.{IsNumber};
 ghost use Rattle.frs_disk.specs.Frames.{IsRestarted};
 ghost use Rattle.frs_disk.specs.Files.{AreDistinct, plain_files, image_of};
-ghost use Rattle.frs_disk.specs.Calls.{chosen_image, IsAsSynced};
-ghost use Rattle.frs_disk.specs.Plans.{start_of, files_of, record_of, fault_plan_of, faults_of, fails_at};
+ghost use Rattle.frs_disk.specs.Calls.{chosen_image, IsAsSynced, reads_in};
+ghost use Rattle.frs_disk.specs.Plans.{start_of, files_of, record_of, fault_plan_of, faults_of, widest_of, fails_at};
 
 use super::{Choice, FaultPlan, MemDisk};
 use crate::calls::Made;
@@ -20,7 +20,7 @@ use std::alloc::Global;
 
 impl MemDisk {
     /// A disk with these files, at which nothing is pending. The files' numbers are distinct, and each is from 1
-    /// to 2^62 - 1. The moment and the count of faults are 0, and the record is empty.
+    /// to 2^62 - 1. The moment and the count of faults are 0, nothing was read, and the record is empty.
     pub fn of(
         alloc: Global,
         files: Vec<(u64, Vec<u8>)>,
@@ -35,6 +35,7 @@ impl MemDisk {
         ensures restarted { IfOk result (IsRestarted ⟦<MemDisk as Disk>⟧) }
         ensures moment { IfOk result (λ disk. ⟦<MemDisk as Disk>⟧.moment disk ≡ 0) }
         ensures faults { IfOk result (λ disk. ⟦<MemDisk as Disk>⟧.faults disk ≡ 0) }
+        ensures widest { IfOk result (λ disk. ⟦<MemDisk as Disk>⟧.widest disk ≡ 0) }
         ensures record { IfOk result (λ disk. record_of disk ≡ []) }
         ensures plan { IfOk result (λ disk. fault_plan_of disk ≡ plan) }
     {
@@ -47,7 +48,7 @@ impl MemDisk {
     }
 
     /// One of the disks that a crash at this moment may leave, after a restart: nothing is pending, no call is to
-    /// fail, the moment and the count of faults are 0, and the record is empty.
+    /// fail, the moment and the count of faults are 0, nothing was read, and the record is empty.
     pub fn crash(&self, choice: Choice) -> Result<MemDisk, NoMemory>
         ensures image { IfOk result
             (λ disk. ⟦<MemDisk as Disk>⟧.may_leave self.now (⟦<MemDisk as Disk>⟧.reads disk)) }
@@ -68,6 +69,7 @@ impl MemDisk {
         ensures restarted { IfOk result (IsRestarted ⟦<MemDisk as Disk>⟧) }
         ensures moment { IfOk result (λ disk. ⟦<MemDisk as Disk>⟧.moment disk ≡ 0) }
         ensures faults { IfOk result (λ disk. ⟦<MemDisk as Disk>⟧.faults disk ≡ 0) }
+        ensures widest { IfOk result (λ disk. ⟦<MemDisk as Disk>⟧.widest disk ≡ 0) }
         ensures record { IfOk result (λ disk. record_of disk ≡ []) }
         ensures plan { IfOk result (λ disk. (n : ℕ) → fails_at (fault_plan_of disk) n ≡ false) }
     {
@@ -98,6 +100,14 @@ impl MemDisk {
         &self.calls
     }
 
+    /// All reads so far, in the order in which they were asked for: the number of the file, the offset of the first
+    /// byte and the most bytes that were wanted. A read that the plan let fail is among them.
+    pub fn reads(&self) -> &[(u64, u64, u64)]
+        ensures { result.now ≡ reads_in (record_of self.now) }
+    {
+        &self.reads
+    }
+
     // A disk of these files, as after a restart.
     fn restarted(
         alloc: Global,
@@ -111,6 +121,7 @@ impl MemDisk {
         ensures record { IfOk result (λ disk. record_of disk ≡ []) }
         ensures plan { IfOk result (λ disk. fault_plan_of disk ≡ plan) }
         ensures faults { IfOk result (λ disk. faults_of disk ≡ 0) }
+        ensures widest { IfOk result (λ disk. widest_of disk ≡ 0) }
     {
         let start = copy_files(alloc, &files)?;
         Ok(MemDisk {
@@ -118,8 +129,10 @@ impl MemDisk {
             start,
             files,
             calls: Vec::new(alloc),
+            reads: Vec::new(alloc),
             plan,
             faults: 0,
+            widest: 0,
         })
     }
 }

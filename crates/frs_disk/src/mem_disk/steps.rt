@@ -1,11 +1,11 @@
 // What each call of a disk in memory does: it is noted, and then done unless the plan lets it fail.
-ghost use Rattle.std.specs.Prelude.{◌≡◌, ◌⊎◌, ◌+◌, ℕ, true, length, OnOk, OnErr};
+ghost use Rattle.std.specs.Prelude.{◌≡◌, ◌⊎◌, ◌+◌, ℕ, [], ◌∷◌, true, length, MatchOption, OnOk, OnErr};
 ghost use Rattle.std.specs.FinMap.{get, insert, remove};
 ghost use Rattle.frs_disk.specs.Disk.{Image, IsNumber, HasCause, Elapses, Keeps};
 ghost use Rattle.frs_disk.specs.Files.{image_of};
-ghost use Rattle.frs_disk.specs.Calls.{after_call, after_write, TakesCall, RemovesMade, CreatesMade, Notes, MayTake};
+ghost use Rattle.frs_disk.specs.Calls.{after_call, after_write, TakesCall, RemovesMade, CreatesMade, Notes, MayTake, read_in_call, reads_in};
 ghost use Rattle.frs_disk.specs.Faults.{FailsExactly, faults_after};
-ghost use Rattle.frs_disk.specs.Plans.{files_of, record_of, fault_plan_of, left_by, left_since_by, moment_of, removed_on, fails_at, Plays};
+ghost use Rattle.frs_disk.specs.Plans.{files_of, record_of, fault_plan_of, widest_of, left_by, left_since_by, moment_of, removed_on, fails_at, Plays};
 
 use super::MemDisk;
 use crate::calls::{Call, Made};
@@ -24,11 +24,18 @@ impl MemDisk {
         ensures crash { Keeps (left_by self.old) (left_by self.new) }
         ensures time { Elapses moment_of left_since_by left_by self.old self.new }
         ensures files { self.new.files ≡ self.old.files }
+        ensures width { widest_of self.new ≡ widest_of self.old }
         ensures cause { HasCause self.old.faults self.new.faults result }
         ensures plays { Plays call self.old self.new result }
     {
         let fails = self.fails();
-        note(&mut self.calls, &mut self.faults, fails, call)
+        note_asked(
+            &mut self.calls,
+            &mut self.reads,
+            &mut self.faults,
+            fails,
+            call,
+        )
     }
 
     // A call that sets the bytes of a file.
@@ -37,9 +44,11 @@ impl MemDisk {
         requires sets { after_call call (files_of self.old)
             ≡ insert (files_of self.old) number next.items }
         requires removes { (n : ℕ) → RemovesMade true call n → ⊥ }
+        requires no_read { read_in_call call ≡ [] }
         ensures changed { OnOk result (files_of self.new
             ≡ insert (files_of self.old) number next.items) }
         ensures files { OnErr result (self.new.files.items ≡ self.old.files.items) }
+        ensures width { widest_of self.new ≡ widest_of self.old }
         ensures pending { (n : ℕ) → removed_on self.new n → removed_on self.old n }
         ensures leaves { MayTake call (files_of self.old) (left_by self.old) (left_by self.new) }
         ensures time { Elapses moment_of left_since_by left_by self.old self.new }
@@ -67,9 +76,11 @@ impl MemDisk {
         requires writes { after_call call (files_of self.old) ≡ after_write number at bytes.now
             (files_of self.old) (get (files_of self.old) number) }
         requires removes { (n : ℕ) → RemovesMade true call n → ⊥ }
+        requires no_read { read_in_call call ≡ [] }
         ensures written { OnOk result (files_of self.new ≡ after_write number at bytes.now
             (files_of self.old) (get (files_of self.old) number)) }
         ensures files { OnErr result (files_of self.new ≡ files_of self.old) }
+        ensures width { widest_of self.new ≡ widest_of self.old }
         ensures pending { (n : ℕ) → removed_on self.new n → removed_on self.old n }
         ensures leaves { MayTake call (files_of self.old) (left_by self.old) (left_by self.new) }
         ensures time { Elapses moment_of left_since_by left_by self.old self.new }
@@ -89,6 +100,7 @@ impl MemDisk {
     pub(super) fn take_out(&mut self, number: u64) -> Result<(), Fault>
         ensures removed { OnOk result (files_of self.new ≡ remove (files_of self.old) number) }
         ensures files { OnErr result (self.new.files.items ≡ self.old.files.items) }
+        ensures width { widest_of self.new ≡ widest_of self.old }
         ensures pending { (n : ℕ) → removed_on self.new n → removed_on self.old n ⊎ (n ≡ number) }
         ensures leaves { MayTake (Call.Remove number) (files_of self.old) (left_by self.old)
             (left_by self.new) }
@@ -114,6 +126,43 @@ impl MemDisk {
         let next = self.calls.len() as u64 + 1;
         self.plan.failing.contains(&next) || self.plan.stop_after.is_some_and(|last| last < next)
     }
+}
+
+// The number, the offset and the room of a call that reads.
+fn read_in_call(call: &Call) -> Option<(u64, u64, u64)>
+    ensures { MatchOption result (read_in_call call.now ≡ [])
+        (λ asked. read_in_call call.now ≡ asked ∷ []) }
+{
+    match call {
+        Call::Read { number, at, room } => Some((*number, *at, *room)),
+        _ => None,
+    }
+}
+
+// Adds a call to the record, and to the reads where it is one.
+fn note_asked(
+    calls: &mut Vec<Made>,
+    reads: &mut Vec<(u64, u64, u64)>,
+    faults: &mut u64,
+    fails: bool,
+    call: Call,
+) -> Result<(), Fault>
+    requires { reads.old.items ≡ reads_in calls.old.items }
+    ensures noted { Notes call calls.old.items calls.new.items result }
+    ensures reads { reads.new.items ≡ reads_in calls.new.items }
+    ensures planned { FailsExactly fails result }
+    ensures counted { faults.new ≡ faults_after result faults.old }
+    ensures cause { HasCause faults.old faults.new result }
+{
+    let Some(asked) = read_in_call(&call) else {
+        return note(calls, faults, fails, call);
+    };
+    reads.push(asked)?;
+    let noted = note(calls, faults, fails, call);
+    if noted == Err(Fault::Memory) {
+        reads.pop();
+    }
+    noted
 }
 
 // Adds a call to the record.

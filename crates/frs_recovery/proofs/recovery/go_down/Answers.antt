@@ -22,6 +22,7 @@ loop-number-init g c =
       way = set_out (d.tells c.args.disk.now) (entries (d.reads c.args.disk.now)) (files_left c.args.numbers.now (d.reads c.args.disk.now) 0) c.new-descent.result c.new-descent.ensures.looked c.new-descent.ensures.half
           (λ told. all_left c.args.numbers.now (d.reads c.args.disk.now) (c.requires.all told));
       frame = only_reads_none d g.met.D.Disk.only_now c.args.disk.now;
+      width = omega arith;
       faults = refl;
     }
 
@@ -51,6 +52,7 @@ loop-number-preserved g c =
     record {
       way = turn_on (d.tells c.args.disk.now) m numbers k (length (c.loop-number.yielded ++ c.in-Some.field-0 ∷ [])) c.look_at.new.descent c.is_enough.result turned_to c.is_enough.ensures c.if-is_enough.false (length_push c.loop-number.yielded c.in-Some.field-0);
       frame = only_reads_join d g.met.D.Disk.since_earlier c.args.disk.now c.loop-number.disk c.look_at.new.disk way.frame c.look_at.ensures.frame;
+      width = omega (arith, way.width, c.look_at.ensures.width);
       faults = c.in_ok-look_at.ensures.cause ∙ way.faults;
     }
 
@@ -97,6 +99,7 @@ returns-then-is_enough g c =
       down = turn_ends (d.tells c.args.disk.now) m numbers k c.look_at.new.descent c.is_enough.result turned_to c.is_enough.ensures c.if-is_enough.true;
       why = λ told. tt;
       frame = only_reads_join d g.met.D.Disk.since_earlier c.args.disk.now c.loop-number.disk c.look_at.new.disk way.frame c.look_at.ensures.frame;
+      width = omega (arith, way.width, c.look_at.ensures.width);
       cause = c.in_ok-look_at.ensures.cause ∙ way.faults;
     }
 
@@ -114,6 +117,7 @@ returns-in_err-at_end g c =
       down = none_down (LooksDown (d.tells c.args.disk.now) (entries m)) c.from_residual-in_err-at_end.result fault is;
       why = λ told. err_is (IsCauseOnDisk (entries m)) c.from_residual-in_err-at_end.result fault is (end_fails (d.tells c.args.disk.now) m numbers (length c.loop-number.yielded) c.loop-number.descent fault way.way all c.in_err-at_end.ensures.gap told);
       frame = way.frame;
+      width = way.width;
       cause = gap_cause (d.faults c.args.disk.now) (d.faults c.loop-number.disk) c.from_residual-in_err-at_end.result fault way.way.segments is way.faults (c.in_err-at_end.ensures.gap way.way.segments way.way.looked way.way.further).1;
     }
 
@@ -127,5 +131,6 @@ returns g c =
       down = end_down (d.tells c.args.disk.now) (d.reads c.args.disk.now) numbers (length c.loop-number.yielded) c.loop-number.descent way.way (ended.1 ∙ length-reverse numbers) c.in_ok-at_end.ensures.whole;
       why = λ told. tt;
       frame = way.frame;
+      width = way.width;
       cause = way.faults;
     }

@@ -45,6 +45,7 @@ returns-in_err-numbers g c =
       state = λ told records lawful by. none_down (HasState (state_after (settled_state [] 1) records)) c.from_residual.result (recover_fault_of fault) is;
       in_range = none_down IsInRange c.from_residual.result (recover_fault_of fault) is;
       frame = listed;
+      width = omega (arith, c.segments.ensures.width);
       cause = still_cause (d.faults c.args.disk.now) (d.faults c.args.disk.now) (d.faults c.segments.new.self) c.from_residual.result (recover_fault_of fault) is refl (outside_counts (Vec ℕ Global) (d.faults c.args.disk.now) (d.faults c.segments.new.self) fault c.in_err-numbers.ensures.cause);
     }
 
@@ -66,6 +67,7 @@ returns-in_err-descent g c =
       state = λ told records lawful by. none_down (HasState (state_after (settled_state [] 1) records)) result fault is;
       in_range = none_down IsInRange result fault is;
       frame = only_reads_join d g.met.D.Disk.since_earlier c.args.disk.now c.segments.new.self c.go_down.new.disk listed c.go_down.ensures.frame;
+      width = omega (arith, c.segments.ensures.width, c.go_down.ensures.width);
       cause = still_cause (d.faults c.args.disk.now) (d.faults c.segments.new.self) (d.faults c.go_down.new.disk) result fault is c.in_ok-numbers.ensures.cause c.in_err-descent.ensures.cause;
     }
 
@@ -87,5 +89,6 @@ returns g c =
       state = λ told. recovered_is_state (entries m) c.recovered_store.result (only_one c.one_log.ensures.segments c.one_log.ensures.log (entries m) c.recovered_store.result (found told));
       in_range = c.recovered_store.ensures.in_range (d.tells c.segments.new.self) (entries later) c.in_ok-descent.ensures.down;
       frame = only_reads_join d g.met.D.Disk.since_earlier c.args.disk.now c.segments.new.self c.go_down.new.disk listed c.go_down.ensures.frame;
+      width = omega (arith, c.segments.ensures.width, c.go_down.ensures.width);
       cause = c.in_ok-descent.ensures.cause ∙ c.in_ok-numbers.ensures.cause;
     }

@@ -7,13 +7,13 @@ use Rattle.frs_disk.specs.declared.calls.Made.{Made}
 use Rattle.std.specs.Ordering.{nat_cmp}
 use Rattle.frs_disk.specs.Files.{plain_files, image_of}
 use Rattle.frs_disk.specs.Faults.{FailsExactly}
-use Rattle.frs_disk.specs.Calls.{HasCreated, image_after_calls, after_write}
+use Rattle.frs_disk.specs.Calls.{HasCreated, reads_in, image_after_calls, after_write}
 use Rattle.frs_disk.specs.declared.mem_disk.MemDisk.{MemDisk}
-use Rattle.frs_disk.proofs.Noted.{adds_noted, adds_takes, adds_pending, elapses_adds, done_tied, undone_tied, adds_numbered, plays_refused}
+use Rattle.frs_disk.proofs.Noted.{adds_noted, adds_takes, adds_pending, elapses_adds, done_tied, undone_tied, adds_numbered, adds_no_read, plays_refused}
 use Rattle.frs_disk.proofs.mem_disk.MemDisk.write_over.Goals as goal
 
 pub invariant_of-self : goal.invariant_of-self
-invariant_of-self c = record { rising = c.args.self.now.rising; start_rising = c.args.self.now.start_rising; in_range = adds_numbered c.args.call (image_of c.args.self.now.start.items) c.args.self.now.calls.items c.note.new.calls.items (adds_noted c.args.call c.args.self.now.calls.items c.note.new.calls.items c.note.result c.note.ensures.noted) c.requires.creates c.args.self.now.in_range; tied = undone_tied (Unit {0}) (c.args.call) (image_of c.args.self.now.start.items) (image_of c.args.self.now.files.items) c.args.self.now.calls.items c.note.new.calls.items c.in_err-note.field-0.0 c.args.self.now.tied c.in_err-note.ensures.noted }
+invariant_of-self c = record { rising = c.args.self.now.rising; start_rising = c.args.self.now.start_rising; in_range = adds_numbered c.args.call (image_of c.args.self.now.start.items) c.args.self.now.calls.items c.note.new.calls.items (adds_noted c.args.call c.args.self.now.calls.items c.note.new.calls.items c.note.result c.note.ensures.noted) c.requires.creates c.args.self.now.in_range; tied = undone_tied (Unit {0}) (c.args.call) (image_of c.args.self.now.start.items) (image_of c.args.self.now.files.items) c.args.self.now.calls.items c.note.new.calls.items c.in_err-note.field-0.0 c.args.self.now.tied c.in_err-note.ensures.noted; noted_reads = adds_no_read c.args.call c.args.self.now.calls.items c.note.new.calls.items (adds_noted c.args.call c.args.self.now.calls.items c.note.new.calls.items c.note.result c.note.ensures.noted) c.requires.no_read _ c.args.self.now.noted_reads }
 
 pub returns-in_err-note-clause-pending : goal.returns-in_err-note-clause-pending
 returns-in_err-note-clause-pending c = adds_pending (c.args.call) c.args.self.now.calls.items c.note.new.calls.items (adds_noted (c.args.call) c.args.self.now.calls.items c.note.new.calls.items c.note.result c.note.ensures.noted) c.requires.removes
@@ -49,6 +49,7 @@ invariant_of-self-else-is_err c =
       in_range = adds_numbered c.args.call (image_of c.args.self.now.start.items) c.args.self.now.calls.items c.note.new.calls.items (inr (true, c.in_ok-note.ensures.noted)) c.requires.creates c.args.self.now.in_range;
       tied = done_tied c.args.call (image_of c.args.self.now.start.items) (image_of c.args.self.now.files.items) (image_of c.write_file.new.files.items) c.args.self.now.calls.items c.note.new.calls.items
           c.args.self.now.tied c.in_ok-note.ensures.noted (set ∙ sym c.requires.writes);
+      noted_reads = adds_no_read c.args.call c.args.self.now.calls.items c.note.new.calls.items (inr (true, c.in_ok-note.ensures.noted)) c.requires.no_read _ c.args.self.now.noted_reads;
     }
 
 pub invariant_of-self-then-is_err : goal.invariant_of-self-then-is_err
@@ -60,6 +61,7 @@ invariant_of-self-then-is_err c =
       start_rising = c.args.self.now.start_rising;
       in_range = subst (λ (l : List Made). (n : ℕ) → IsSome (get (image_of c.args.self.now.start.items) n) ⊎ HasCreated l n → IsNumber n) (sym same_calls) c.args.self.now.in_range;
       tied = ap (λ (f : List (ℕ × List ℕ)). entries (from_sorted {R = nat_cmp} f)) same_files ∙ c.args.self.now.tied ∙ ap (λ (l : List Made). entries (image_after_calls (image_of c.args.self.now.start.items) l)) (sym same_calls);
+      noted_reads = c.args.self.now.noted_reads ∙ ap reads_in (sym same_calls);
     }
 
 pub returns-in_err-note-clause-plays : goal.returns-in_err-note-clause-plays
