@@ -1,4 +1,5 @@
 pub mod Decoding
 pub mod Front
 pub mod Kinds
+pub mod Refusals
 pub mod Spelling

@@ -10,8 +10,8 @@ use frs_types::{Action, ID_LIMIT, KEY_LIMIT, Key, MapId, NoMemory, VALUE_LIMIT, 
 use std::alloc::Global;
 use std::marker::Model;
 
-/// The bytes of a record before what its kind brings: the kind, the transaction, the lowest and the named LSN. No record
-/// is shorter.
+/// The bytes of a record before what its kind brings: the kind, the transaction, the lowest and the named LSN. No
+/// record is shorter.
 pub const RECORD_HEAD: usize = 25;
 
 // How many bytes tell the length of an id, of a key and of a value.

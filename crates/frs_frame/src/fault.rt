@@ -1,5 +1,6 @@
 //! Why no record stands at the front of bytes.
-ghost use Rattle.std.specs.Prelude.{◌≡◌};
+ghost use Rattle.std.specs.Prelude.{◌≡◌, Some};
+ghost use Rattle.frs_frame.specs.Refusals.{frame_fault_text};
 ghost use Rattle.frs_frame.specs.declared.fault.FrameFault.TheVariants.{Memory};
 
 use frs_types::NoMemory;
@@ -31,6 +32,8 @@ pub enum FrameFault {
 }
 
 impl fmt::Display for FrameFault {
+    ghost output = { λ fault. Some (frame_fault_text fault) };
+
     fn fmt<W: fmt::Write>(&self, f: &mut fmt::Formatter<W>) -> fmt::Result {
         match self {
             FrameFault::Kind { byte } => write!(f, "no record begins with the byte {byte}"),

@@ -65,17 +65,17 @@ pub pops_kept : (c e : Pops) → SameConsumer c e → pops_from e ≡ pops_from 
 pops_kept c e same = named_alike c.end e.end same.0
 
 -- the views of ends of which the ring and the records stay
-pub drawer_kept : (p q : Pushes) (first capacity known_taken : ℕ) → SameProducer p q → sent q ≡ sent p
-    → (let after : DrawerView = record { ring = pushes_on q; first = first; capacity = capacity; drawn = sent q; known_taken = known_taken } in
-    let before : DrawerView = record { ring = pushes_on p; first = first; capacity = capacity; drawn = sent p; known_taken = known_taken } in after ≡ before)
-drawer_kept p q first capacity known_taken same stays =
-    λ i. record { ring = pushes_kept p q same i; first = first; capacity = capacity; drawn = stays i; known_taken = known_taken }
+pub drawer_kept : (p q : Pushes) (first capacity known_taken loads : ℕ) → SameProducer p q → sent q ≡ sent p
+    → (let after : DrawerView = record { ring = pushes_on q; first = first; capacity = capacity; drawn = sent q; known_taken = known_taken; loads = loads } in
+    let before : DrawerView = record { ring = pushes_on p; first = first; capacity = capacity; drawn = sent p; known_taken = known_taken; loads = loads } in after ≡ before)
+drawer_kept p q first capacity known_taken loads same stays =
+    λ i. record { ring = pushes_kept p q same i; first = first; capacity = capacity; drawn = stays i; known_taken = known_taken; loads = loads }
 
-pub taker_kept : (c e : Pops) (first sure known : ℕ) → SameConsumer c e → received e ≡ received c
-    → (let after : TakerView = record { ring = pops_from e; first = first; taken = received e; sure = sure; known = known } in
-    let before : TakerView = record { ring = pops_from c; first = first; taken = received c; sure = sure; known = known } in after ≡ before)
-taker_kept c e first sure known same stays =
-    λ i. record { ring = pops_kept c e same i; first = first; taken = stays i; sure = sure; known = known }
+pub taker_kept : (c e : Pops) (first sure known misses : ℕ) → SameConsumer c e → received e ≡ received c
+    → (let after : TakerView = record { ring = pops_from e; first = first; taken = received e; sure = sure; known = known; misses = misses } in
+    let before : TakerView = record { ring = pops_from c; first = first; taken = received c; sure = sure; known = known; misses = misses } in after ≡ before)
+taker_kept c e first sure known misses same stays =
+    λ i. record { ring = pops_kept c e same i; first = first; taken = stays i; sure = sure; known = known; misses = misses }
 
 -- two ends that were of one ring still are
 pub still_paired : (p q : Pushes) (c e : Pops) → SameProducer p q → SameConsumer c e → pushes_on p ≡ pops_from c → pushes_on q ≡ pops_from e

@@ -15,6 +15,7 @@ drawer_seen a = record {
   capacity = a.capacity;
   drawn = sent a.producer;
   known_taken = a.known_taken;
+  loads = a.loads;
 }
 
 abbrev pub taker_seen : taker.Inside → TakerView
@@ -23,8 +24,8 @@ taker_seen a = record {
   first = a.first;
   taken = received a.consumer;
   sure = a.sure;
-  known
-      = a.known;
+  known = a.known;
+  misses = a.misses;
 }
 
 -- the counts of a drawer fit what was pushed, and what it doesn't count as outstanding is free

@@ -1,3 +1,4 @@
 pub mod Ends
 pub mod Names
+pub mod Refusals
 pub mod Views

@@ -1,8 +1,9 @@
 // The end of the ring that draws LSNs.
-ghost use Rattle.std.specs.Prelude.{◌≡◌, ◌+◌, ◌<◌, ◌≤◌, ◌↔◌, [], length, IsNone, IsOk, IsTrue, IfOk, IfErr, IfSome};
+ghost use Rattle.std.specs.Prelude.{◌≡◌, ◌⊎◌, ◌+◌, ◌<◌, ◌≤◌, ◌↔◌, [], length, Some, IsNone, IsOk, IsTrue, IfOk, IfErr, IfSome};
 ghost use Rattle.rtrb.specs.Ring.{sent, known_free, producer_capacity};
-ghost use Rattle.frs_slots.specs.Views.{next_drawn, outstanding, HasRoom, KnowsMore, DrewRecord};
+ghost use Rattle.frs_slots.specs.Views.{next_drawn, outstanding, HasRoom, HasLooked, DrewRecord};
 ghost use Rattle.frs_slots.specs.Names.{pushes_on};
+ghost use Rattle.frs_slots.specs.Refusals.{no_room_text};
 
 use crate::CAPACITY_LIMIT;
 use crate::slot::{OfRing, Slip};
@@ -13,8 +14,8 @@ use std::fmt;
 use std::marker::Model;
 
 /// The end of the ring that draws: it gives each record the next LSN.
-/// Contracts see it as the name of its ring, its first LSN, its capacity, the bytes of the records that were drawn, and
-/// how many of these it knows as taken.
+/// Contracts see it as the name of its ring, its first LSN, its capacity, the bytes of the records that were drawn, how
+/// many of these it knows as taken, and how often it has looked how many were taken, which stands still at 2^64 - 1.
 #[derive(Drop)]
 pub struct Drawer {
     pub(crate) producer: Producer<Framed>,
@@ -22,6 +23,7 @@ pub struct Drawer {
     pub(crate) next: u64,
     capacity: u32,
     pub(crate) known_taken: u64,
+    loads: u64,
 }
 
 impl Model for Drawer {
@@ -48,6 +50,8 @@ pub struct NoRoom {
 }
 
 impl fmt::Display for NoRoom {
+    ghost output = { λ refused. Some (no_room_text refused) };
+
     fn fmt<W: fmt::Write>(&self, f: &mut fmt::Formatter<W>) -> fmt::Result {
         write!(
             f,
@@ -73,6 +77,7 @@ impl Drawer {
           drawn =
               [];
           known_taken = 0;
+          loads = 0;
         } }
     {
         Drawer {
@@ -81,6 +86,7 @@ impl Drawer {
             next: first,
             capacity,
             known_taken: 0,
+            loads: 0,
         }
     }
 
@@ -95,14 +101,14 @@ impl Drawer {
         self.next
     }
 
-    /// Draws the next LSN for a record, which has to be below 2^62. Wherever there is room by what the drawer knows, it
-    /// answers the slip for it. `NoRoom` comes only where the drawer has looked and the ring is full by what it then
-    /// knows; nothing is drawn. Takes no memory.
+    /// Draws the next LSN for a record, which has to be below 2^62. Wherever there is room by what the drawer knows,
+    /// it answers the slip for it. `NoRoom` comes only where the drawer has looked in this call and the ring is full
+    /// by what it then knows; nothing is drawn. Takes no memory.
     pub fn draw(&mut self, framed: Framed) -> Result<Slip, NoRoom>
         requires { next_drawn self.old < NUMBER_LIMIT }
         ensures drawn { IfOk result (λ slip. DrewRecord self.old framed self.new
             × (slip.lsn ≡ next_drawn self.old) × (slip.ring ≡ self.old.ring)) }
-        ensures full { IfErr result (λ refused. KnowsMore self.old self.new
+        ensures full { IfErr result (λ refused. HasLooked self.old self.new
             × (outstanding self.new ≡ self.new.capacity)
             × (refused ≡ record {
               framed = framed;
@@ -125,13 +131,16 @@ impl Drawer {
     }
 
     /// Whether the next `draw` finds room: None exactly where there is room by what the drawer then knows, and that
-    /// `draw` then answers a slip. Otherwise the number of records drawn and the number known as taken, as `NoRoom` has
-    /// them. It may learn that more was taken, and changes nothing else. Takes no memory.
+    /// `draw` then answers a slip. Otherwise the number of records drawn and the number known as taken, as `NoRoom`
+    /// has them. It looks how many were taken exactly where there was no room by what it knew, and changes nothing
+    /// else. Takes no memory.
     pub fn room(&mut self) -> Option<(u64, u64)>
-        ensures looked { KnowsMore self.old self.new }
+        ensures looked { (self.new ≡ self.old) ⊎ HasLooked self.old self.new }
+        ensures unlooked { HasRoom self.old → self.new ≡ self.old }
         ensures room { IsNone result ↔ HasRoom self.new }
-        ensures full { IfSome result (λ numbers. (numbers.0 ≡ length self.new.drawn)
-            × (numbers.1 ≡ self.new.known_taken) × (outstanding self.new ≡ self.new.capacity)) }
+        ensures full { IfSome result (λ numbers. HasLooked self.old self.new
+            × (numbers.0 ≡ length self.new.drawn) × (numbers.1 ≡ self.new.known_taken)
+            × (outstanding self.new ≡ self.new.capacity)) }
     {
         if self.is_full() {
             self.look();
@@ -152,9 +161,10 @@ impl Drawer {
 
     // Looks how much was taken.
     fn look(&mut self)
-        ensures { KnowsMore self.old self.new }
+        ensures { HasLooked self.old self.new }
     {
         let free = self.producer.slots() as u64;
         self.known_taken = self.next - self.first + free - u64::from(self.capacity);
+        self.loads = self.loads.saturating_add(1);
     }
 }

@@ -6,12 +6,14 @@ ghost use Rattle.frs_slots.specs.Views.{AreOfOneRing};
 
 mod draw_end;
 mod drawer;
+mod ghost_copy;
 mod slot;
 mod taker;
 
 pub use draw_end::DrawEnd;
 pub use drawer::{Drawer, NoRoom};
 use frs_types::{NUMBER_LIMIT, NoMemory};
+pub use ghost_copy::GhostCopy;
 use rtrb::RingBuffer;
 pub use slot::{Filled, Slip};
 use std::alloc::Global;
@@ -34,9 +36,10 @@ pub fn ring(alloc: Global, capacity: u32, first: u64) -> Result<(Drawer, Taker),
           drawn =
               [];
           known_taken = 0;
+          loads = 0;
         }) }
     ensures taker { IfOk result (λ ends. ends.1
-        ≡ record { ring = ends.1.ring; first = first; taken = []; sure = 0; known = 0 }) }
+        ≡ record { ring = ends.1.ring; first = first; taken = []; sure = 0; known = 0; misses = 0 }) }
 {
     let (producer, consumer) = RingBuffer::new(alloc, capacity as usize)?;
     Ok((
@@ -47,3 +50,5 @@ pub fn ring(alloc: Global, capacity: u32, first: u64) -> Result<(Drawer, Taker),
 
 #[cfg(test)]
 mod tests;
+#[cfg(test)]
+mod thread_tests;

@@ -2,14 +2,14 @@
 ghost use Rattle.std.specs.Prelude.{◌≡◌, ◌<◌};
 ghost use Rattle.frs_slots.specs.Names.{pushes_on};
 
+use crate::ghost_copy::GhostCopy;
 use frs_frame::Framed;
 use frs_types::NUMBER_LIMIT;
 use rtrb::Producer;
 use std::marker::Model;
-use std::snapshot::Snapshot;
 
 // Tells, for proofs alone, of which ring a slot is. It takes no bytes.
-pub(crate) type OfRing = Snapshot<Producer<Framed>>;
+pub(crate) type OfRing = GhostCopy<Producer<Framed>>;
 
 /// The right to publish the record that was drawn with one LSN, and the duty: it can only be spent by `fill`.
 /// Contracts see it as the name of its ring and the LSN.

@@ -1,8 +1,9 @@
 // The end of the ring that takes records in the order of their LSNs.
-ghost use Rattle.std.specs.Prelude.{◌≡◌, ◌≢◌, ◌+◌, ◌<◌, ◌≤◌, [], length, IsOk, IfOk, IfErr};
+ghost use Rattle.std.specs.Prelude.{◌≡◌, ◌≢◌, ◌+◌, ◌<◌, ◌≤◌, [], length, Some, IsOk, IfOk, IfErr};
 ghost use Rattle.rtrb.specs.Ring.{received, known_items};
-ghost use Rattle.frs_slots.specs.Views.{next_taken, TookRecord};
+ghost use Rattle.frs_slots.specs.Views.{next_taken, TookRecord, MissedRecord};
 ghost use Rattle.frs_slots.specs.Names.{pops_from};
+ghost use Rattle.frs_slots.specs.Refusals.{not_yet_text};
 
 use crate::slot::Filled;
 use frs_frame::Framed;
@@ -11,10 +12,10 @@ use rtrb::Consumer;
 use std::fmt;
 use std::marker::Model;
 
-/// The end of the ring that takes.
-/// Contracts see it as the name of its ring, its first LSN, the bytes of the records that were taken, and two numbers
-/// that are never below the number taken and never fall: `sure` counts the first records that were taken or whose
-/// receipts it was given in order, `known` counts the first records that it can take.
+/// The end of the ring that takes. Contracts see it as the name of its ring, its first LSN, the bytes of the records
+/// that were taken, and two numbers that are never below the number taken and never fall: `sure` counts the first
+/// records that were taken or whose receipts it was given in order, `known` counts the first records that it can
+/// take. `misses` counts how often the next record wasn't there; it stands still at 2^64 - 1.
 #[derive(Drop)]
 pub struct Taker {
     pub(crate) consumer: Consumer<Framed>,
@@ -22,6 +23,7 @@ pub struct Taker {
     pub(crate) next: u64,
     sure: u64,
     pub(crate) known: u64,
+    misses: u64,
 }
 
 impl Model for Taker {
@@ -44,6 +46,8 @@ pub struct NotYet {
 }
 
 impl fmt::Display for NotYet {
+    ghost output = { λ refused. Some (not_yet_text refused) };
+
     fn fmt<W: fmt::Write>(&self, f: &mut fmt::Formatter<W>) -> fmt::Result {
         write!(f, "all {} known records were taken", self.known)
     }
@@ -57,7 +61,7 @@ impl Taker {
         requires empty { received consumer ≡ [] }
         requires in_range { (1 ≤ first) × (first < NUMBER_LIMIT) }
         ensures { result
-            ≡ record { ring = pops_from consumer; first = first; taken = []; sure = 0; known = 0 } }
+            ≡ record { ring = pops_from consumer; first = first; taken = []; sure = 0; known = 0; misses = 0 } }
     {
         Taker {
             consumer,
@@ -65,6 +69,7 @@ impl Taker {
             next: first,
             sure: 0,
             known: 0,
+            misses: 0,
         }
     }
 
@@ -93,15 +98,17 @@ impl Taker {
     }
 
     /// Takes the record with the next LSN, which is below 2^62. It does so wherever more records are known than were
-    /// taken. `NotYet` comes only where all that are known were taken; nothing is changed then. Takes no memory.
+    /// taken. `NotYet` comes only where all that are known were taken; it raises `misses` by one, and nothing else is
+    /// changed then. Takes no memory.
     pub fn take(&mut self) -> Result<Framed, NotYet>
         ensures taken { IfOk result (λ framed.
             TookRecord self.old framed self.new × (next_taken self.old < NUMBER_LIMIT)) }
-        ensures not_yet { IfErr result (λ refused. (self.new ≡ self.old)
+        ensures not_yet { IfErr result (λ refused. MissedRecord self.old self.new
             × (refused.known ≡ self.old.known) × (self.old.known ≡ length self.old.taken)) }
         ensures known { length self.old.taken < self.old.known → IsOk result }
     {
         if self.next == NUMBER_LIMIT {
+            self.misses = self.misses.saturating_add(1);
             return Err(NotYet { known: self.known });
         }
         match self.consumer.pop() {
@@ -112,7 +119,10 @@ impl Taker {
                 self.known = self.known.max(taken);
                 Ok(framed)
             }
-            Err(_) => Err(NotYet { known: self.known }),
+            Err(_) => {
+                self.misses = self.misses.saturating_add(1);
+                Err(NotYet { known: self.known })
+            }
         }
     }
 }

@@ -1,6 +1,7 @@
 pub mod CommandLine
 pub mod LastLines
 pub mod LineReadings
+pub mod Refusals
 pub mod Rows
 pub mod Scripts
 pub mod Sinks

@@ -9,8 +9,8 @@ use frs_disk::{Fault, Sink};
 use frs_types::NoMemory;
 use std::alloc::Global;
 
-/// What the last line of a text says: how a run ended, or what was refused. Scripts and files are numbered from 1, as the
-/// clients are, and lines from 1.
+/// What the last line of a text says: how a run ended, or what was refused. Scripts and files are numbered from 1, as
+/// the clients are, and lines from 1.
 #[derive(Clone, Copy, Debug, PartialEq, Eq)]
 pub enum LastLine {
     /// `closed`: all was done.

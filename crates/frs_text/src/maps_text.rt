@@ -97,8 +97,8 @@ fn write_rows<S: Sink>(alloc: Global, rows: &[&Entry], sink: &mut S) -> Result<(
     write_gathered(&mut text, sink)
 }
 
-/// Writes a line `ID KEY VALUE` for each of the entries, in the byte order of id and then key. No two of the entries may
-/// have the same id and key. A fault of the sink, or want of memory, leaves a front of that text written.
+/// Writes a line `ID KEY VALUE` for each of the entries, in the byte order of id and then key. No two of the entries
+/// may have the same id and key. A fault of the sink, or want of memory, leaves a front of that text written.
 pub fn dump<S: Sink>(alloc: Global, entries: &[Entry], sink: &mut S) -> Result<(), Fault>
     requires { IsDistinct same_place (map place_of_entry entries.now) }
     ensures all { OnOk result (WritesAll S.Sink (text_of.dump (maps_of entries.now))

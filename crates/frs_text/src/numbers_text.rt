@@ -48,10 +48,11 @@ fn numbers(alloc: Global, recovered: &Recovered) -> Result<String, NoMemory>
     Ok(text)
 }
 
-/// Writes how many segments were looked at, how many chunks these have, how many records stand from the lowest that the
-/// newest of them names, the LSN that the next record gets, the lowest that is needed, how many entries the maps have, and
-/// how far the lowest is below the next: seven lines, each with a name and a number. Neither the lowest nor the named one
-/// may be above the next LSN. A fault of the sink, or want of memory, leaves a front of that text written.
+/// Writes how many segments were looked at, how many chunks these have, how many records stand from the lowest that
+/// the newest of them names, the LSN that the next record gets, the lowest that is needed, how many entries the maps
+/// have, and how far the lowest is below the next: seven lines, each with a name and a number. Neither the lowest nor
+/// the named one may be above the next LSN. A fault of the sink, or want of memory, leaves a front of that text
+/// written.
 pub fn stat_text<S: Sink>(alloc: Global, recovered: &Recovered, sink: &mut S) -> Result<(), Fault>
     requires lowest { recovered.now.lowest ≤ recovered.now.found.next }
     requires named { recovered.now.found.named ≤ recovered.now.found.next }

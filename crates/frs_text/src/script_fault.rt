@@ -1,5 +1,6 @@
 //! Why bytes are no script.
-ghost use Rattle.std.specs.Prelude.{◌≡◌};
+ghost use Rattle.std.specs.Prelude.{◌≡◌, Some};
+ghost use Rattle.frs_text.specs.Refusals.{script_fault_text};
 ghost use Rattle.frs_text.specs.declared.script_fault.ScriptFault.TheVariants.{Memory};
 
 use frs_types::NoMemory;
@@ -31,6 +32,8 @@ pub enum ScriptFault {
 }
 
 impl fmt::Display for ScriptFault {
+    ghost output = { λ fault. Some (script_fault_text fault) };
+
     fn fmt<W: fmt::Write>(&self, f: &mut fmt::Formatter<W>) -> fmt::Result {
         match self {
             ScriptFault::BadLine { line } => write!(f, "line {line} is no command"),

@@ -1,5 +1,5 @@
-//! The lines of the transcript. Each function adds text at the end of what is there; where memory runs out, a part of it
-//! may have been added.
+//! The lines of the transcript. Each function adds text at the end of what is there; where memory runs out, a part of
+//! it may have been added.
 ghost use Rattle.std.specs.Prelude.{◌≡◌, ◌∷◌, ◌++◌, OnOk, codes};
 ghost use Rattle.std.specs.String.{string_bytes};
 ghost use Rattle.frs_text.specs.Text.{words_at, event_words, event_line, ack_line};

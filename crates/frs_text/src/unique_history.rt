@@ -10,8 +10,8 @@ ghost use Rattle.frs_text.specs.Transcripts.{IsHistory, IsEnd, ack_numbers};
 ghost use Rattle.frs_text.specs.Text.{Text, line, transcript};
 
 /// A text is the transcript of one history at most. Where two legal histories of the same scripts have the same
-/// transcript, from whatever maps each of them begins, they have the same events, acknowledgements of the same clients and
-/// lines, and the same end.
+/// transcript, from whatever maps each of them begins, they have the same events, acknowledgements of the same
+/// clients and lines, and the same end.
 pub fn one_history()
     ensures { (scripts : Scripts) (maps other_maps : Maps) (last other_last : ℕ)
         (events other_events : List Event) (acks other_acks : List Ack)

@@ -1,5 +1,6 @@
 //! Why the words of a command line ask for nothing.
-ghost use Rattle.std.specs.Prelude.{◌≡◌};
+ghost use Rattle.std.specs.Prelude.{◌≡◌, Some};
+ghost use Rattle.frs_text.specs.Refusals.{words_fault_text};
 ghost use Rattle.frs_text.specs.declared.words_fault.WordsFault.TheVariants.{Memory};
 
 use frs_types::NoMemory;
@@ -20,6 +21,8 @@ pub enum WordsFault {
 }
 
 impl fmt::Display for WordsFault {
+    ghost output = { λ fault. Some (words_fault_text fault) };
+
     fn fmt<W: fmt::Write>(&self, f: &mut fmt::Formatter<W>) -> fmt::Result {
         match self {
             WordsFault::Usage { word } => write!(f, "word {word} has no place or is missing"),

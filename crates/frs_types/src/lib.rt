@@ -1,5 +1,5 @@
-//! The plain data that every layer speaks of: words and their limits, records, entries and locks. The definitions of maps, of logs
-//! and of who waits for whom stand in `specs/`.
+//! The plain data that every layer speaks of: words and their limits, records, entries and locks. The definitions of
+//! maps, of logs and of who waits for whom stand in `specs/`.
 #![tactic(auto)]
 
 mod limits;

@@ -1,5 +1,6 @@
 //! The one answer of a call that found no memory.
-ghost use Rattle.std.specs.Prelude.{◌≡◌};
+ghost use Rattle.std.specs.Prelude.{◌≡◌, Some};
+ghost use Rattle.frs_types.specs.Refusals.{no_memory_text};
 
 use std::alloc::{AllocError, AllocFailed};
 use std::fmt;
@@ -9,6 +10,8 @@ use std::fmt;
 pub struct NoMemory;
 
 impl fmt::Display for NoMemory {
+    ghost output = { λ refused. Some (no_memory_text refused) };
+
     fn fmt<W: fmt::Write>(&self, f: &mut fmt::Formatter<W>) -> fmt::Result {
         write!(f, "out of memory")
     }

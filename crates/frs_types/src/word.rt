@@ -1,5 +1,6 @@
 //! Words: the id of a map, a key and a value. Contracts see each as the list of its bytes.
 ghost use Rattle.std.specs.Prelude.{◌≡◌, ◌≤◌, Some, None, MatchResult, IfOk, length};
+ghost use Rattle.frs_types.specs.Refusals.{word_fault_text};
 ghost use Rattle.frs_types.specs.Words.{word_fault};
 ghost use Rattle.frs_types.specs.declared.word.WordFault.{WordFault};
 ghost use Rattle.frs_types.specs.declared.word.WordFault.TheVariants.{Memory};
@@ -25,6 +26,8 @@ pub enum WordFault {
 }
 
 impl fmt::Display for WordFault {
+    ghost output = { λ fault. Some (word_fault_text fault) };
+
     fn fmt<W: fmt::Write>(&self, f: &mut fmt::Formatter<W>) -> fmt::Result {
         match self {
             WordFault::TooLong { len } => write!(f, "a word of {len} bytes is too long"),
@@ -158,8 +161,8 @@ impl Key {
 }
 
 impl Value {
-    /// The value of these bytes, which may be none. `TooLong` where there are more than 65,535, and `Memory` where there
-    /// was none for it.
+    /// The value of these bytes, which may be none. `TooLong` where there are more than 65,535, and `Memory` where
+    /// there was none for it.
     pub fn new(alloc: Global, bytes: &[u8]) -> Result<Value, WordFault>
         ensures refused { (fault : WordFault) → word_fault 0 VALUE_LIMIT bytes.now ≡ Some fault
             → result ≡ Err fault }

@@ -43,13 +43,13 @@ returns-clause-taker c =
     let pushed_before = ap length c.slots_beside.ensures.looked.1 in
     let all = ap length c.slots_beside-2.ensures.fifo in
     rw (← c.taker.view_is) (
-      taker_kept c.slots_beside.new.consumer c.slots_beside-2.new.self c.taker.inside.first c.taker.inside.sure _ c.slots_beside-2.ensures.looked.0 c.slots_beside-2.ensures.looked.1
-          ∙ taker_kept c.taker.inside.consumer c.slots_beside.new.consumer c.taker.inside.first c.taker.inside.sure _ c.slots_beside.ensures.consumer.0 c.slots_beside.ensures.consumer.1,
+      taker_kept c.slots_beside.new.consumer c.slots_beside-2.new.self c.taker.inside.first c.taker.inside.sure _ c.taker.inside.misses c.slots_beside-2.ensures.looked.0 c.slots_beside-2.ensures.looked.1
+          ∙ taker_kept c.taker.inside.consumer c.slots_beside.new.consumer c.taker.inside.first c.taker.inside.sure _ c.taker.inside.misses c.slots_beside.ensures.consumer.0 c.slots_beside.ensures.consumer.1,
       omega (arith, c.taker.invariant, c.self.invariant, before, more, popped, popped_before, pushed, pushed_before, all, length-append (received c.slots_beside-2.new.self) (known_items c.slots_beside-2.new.self)),
     )
 
 pub returns-clause-drawer : goal.returns-clause-drawer
 returns-clause-drawer c =
-    drawer_kept c.slots_beside.new.self c.slots_beside-2.new.producer c.self.inside.first c.self.inside.capacity c.self.inside.known_taken c.slots_beside-2.ensures.producer.0 c.slots_beside-2.ensures.producer.1
-    ∙ drawer_kept c.self.inside.producer c.slots_beside.new.self c.self.inside.first c.self.inside.capacity c.self.inside.known_taken c.slots_beside.ensures.looked.0 c.slots_beside.ensures.looked.1
+    drawer_kept c.slots_beside.new.self c.slots_beside-2.new.producer c.self.inside.first c.self.inside.capacity c.self.inside.known_taken c.self.inside.loads c.slots_beside-2.ensures.producer.0 c.slots_beside-2.ensures.producer.1
+    ∙ drawer_kept c.self.inside.producer c.slots_beside.new.self c.self.inside.first c.self.inside.capacity c.self.inside.known_taken c.self.inside.loads c.slots_beside.ensures.looked.0 c.slots_beside.ensures.looked.1
     ∙ c.self.view_is

@@ -5,8 +5,8 @@ use Rattle.frs_slots.proofs.Counts.{longer, one_longer, left_within, right_withi
 use Rattle.frs_slots.proofs.NameOfEnd.{taker_kept, pops_kept}
 use Rattle.frs_slots.proofs.taker.Taker.take.Goals as goal
 
-pub invariant_of-self : goal.invariant_of-self
-invariant_of-self c =
+pub invariant_of-self-in-Ok : goal.invariant_of-self-in-Ok
+invariant_of-self-in-Ok c =
     let n = one_longer (received c.self.inside.consumer) (received c.pop.new.self) c.in-Ok.framed c.in-Ok.ensures.ok.0 in
     let m = longer (known_items c.self.inside.consumer) (c.in-Ok.framed ∷ known_items c.pop.new.self) c.in-Ok.ensures.ok.1 in
     let old = c.self.invariant in let below = c.if-self-eq-NUMBER_LIMIT.false in
@@ -41,6 +41,7 @@ returns-in-Ok-clause-taken c =
           left_within c.self.inside.known taken c.max-self-inside-in-Ok.result c.max-self-inside-in-Ok.ensures,
           omega (arith, count, right_within c.self.inside.known taken c.max-self-inside-in-Ok.result c.max-self-inside-in-Ok.ensures),
         );
+        misses = refl;
       },
       omega (arith, old, below),
     )
@@ -48,7 +49,10 @@ returns-in-Ok-clause-taken c =
 pub returns-in-Err-clause-not_yet : goal.returns-in-Err-clause-not_yet
 returns-in-Err-clause-not_yet c =
     rw (← c.self.view_is) (
-      taker_kept c.self.inside.consumer c.pop.new.self c.self.inside.first c.self.inside.sure c.self.inside.known c.pop.ensures.ring c.in-Err.ensures.empty.0,
+      record {
+        same = taker_kept c.self.inside.consumer c.pop.new.self c.self.inside.first c.self.inside.sure c.self.inside.known _ c.pop.ensures.ring c.in-Err.ensures.empty.0;
+        misses = c.saturating_add-self-inside-in-Err.ensures;
+      },
       refl,
       grind (arith, c.self.invariant, c.in-Err.ensures.succeeds),
     )
