@@ -35,6 +35,7 @@ module _ {D : Type 0} (g : Ghosts D) (old mid : D) (reads : OnlyReads g old mid)
           survives = λ told empty. nothing_survives g (commits_of_run script o.events.items) o.acks.items old o.disk acks empty outcome_reads;
           completes = λ closed. absurd (zero closed);
           shows_all = λ closed. absurd (zero closed);
+          again = λ closed. absurd (zero closed);
         }
 
     pub nothing_changed : ((status_of e ≡ 2) ⊎ (status_of e ≡ 5) ⊎ (status_of e ≡ 8) → ⊥) → LeavesAlone g old o.disk (status_of o.ending)
@@ -54,6 +55,7 @@ run_behind g decided old mid new script es acks reads goes run = record {
       };
   completes = run.completes;
   shows_all = λ closed told only. run.shows_all closed (subst IsTrue (sym reads.told) told) (λ x left. only x (reads.crash x left));
+  again = run.again;
 }
 
 -- why it ended, from the disk's state before the call

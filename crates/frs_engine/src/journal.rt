@@ -3,7 +3,7 @@ ghost use Rattle.std.specs.Prelude.{◌≡◌, ◌+◌, ◌<◌, ◌^◌, ◌++�
 ghost use Rattle.std.specs.FinMap.{entries, empty};
 ghost use Rattle.frs_types.specs.declared.record.Record.{Record};
 ghost use Rattle.frs_types.specs.Records.{IsPlaced};
-ghost use Rattle.frs_disk.specs.Frames.{LeftNoFile, Within, GoesOn};
+ghost use Rattle.frs_disk.specs.Frames.{LeftNoFile, NoneRemovedAbove, Within, GoesOn};
 ghost use Rattle.frs_frame.specs.Spelling.{spelling};
 ghost use Rattle.frs_segment.specs.Stores.{IsFound};
 ghost use Rattle.frs_slots.specs.Views.{AreOfOneRing};
@@ -170,8 +170,8 @@ impl<D: Disk> Journal<D> {
         }
     }
 
-    /// Appends a record. Once it answers Ok the record is durable. Where it is refused the record may be durable or not,
-    /// and nothing more is to be appended.
+    /// Appends a record. Once it answers Ok the record is durable. Where it is refused the record may be durable or
+    /// not, and nothing more is to be appended.
     pub(crate) fn append(&mut self, alloc: Global, framed: Framed) -> Result<(), Fault>
         requires written { (records : List Record) × IsWritten D.Disk self.old records }
         requires spelled { (r : Record) × (framed ≡ spelling r) }
@@ -215,7 +215,9 @@ impl<D: Disk> Journal<D> {
 
     /// Gives the disk back.
     pub(crate) fn into_disk(self) -> D
-        ensures { result ≡ self.writer.disk }
+        ensures disk { result ≡ self.writer.disk }
+        ensures pending { self.writer.ended ≡ None → IsTrue (D.tells result)
+            → NoneRemovedAbove D.Disk result }
     {
         let Journal { writer, .. } = self;
         writer.into_disk()

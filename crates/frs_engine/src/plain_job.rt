@@ -81,9 +81,9 @@ fn tell<S: Sink>(alloc: Global, finding: &Finding, sink: &mut S) -> u8
 /// Looks at the store on the disk and prints what the plan asks for: `Recover` its maps, `Stat` its numbers. `Compact`
 /// isn't built yet; nothing is read for it.
 ///
-/// The status is 0 where all was done, 3 where the disk failed, 4 where the first thing wrong with the files is a header, a
-/// chunk or a gap, 6 where the sink failed after all else was done, 8 where it is an LSN that is too large, 9 where there was
-/// no memory, and 10 with the text `later` for `Compact`. Nothing on the disk changes.
+/// The status is 0 where all was done, 3 where the disk failed, 4 where the first thing wrong with the files is a
+/// header, a chunk or a gap, 6 where the sink failed after all else was done, 8 where it is an LSN that is too large,
+/// 9 where there was no memory, and 10 with the text `later` for `Compact`. Nothing on the disk changes.
 pub fn frs_plain<D: Disk, S: Sink>(
     alloc: Global,
     plan: &PlainPlan,

@@ -257,7 +257,8 @@ fn segments_that_are_refused(rt: HostRuntime) -> Result<(), Fail> {
     Ok(())
 }
 
-// The disk fails at each of its calls in turn; the sink fails at its first; and nothing is read for what isn't built yet.
+// The disk fails at each of its calls in turn; the sink fails at its first; and nothing is read for what isn't built
+// yet.
 #[test]
 fn faults_of_the_disk_and_of_the_sink(rt: HostRuntime) -> Result<(), Fail> {
     let alloc = rt.alloc();

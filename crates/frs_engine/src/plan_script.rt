@@ -8,6 +8,7 @@ use crate::ending::Ending;
 use frs_disk::{Fault, Files, Name};
 use frs_history::{Command, Line, Script};
 use frs_text::{RunPlan, ScriptFault, parse_script};
+use frs_types::CLIENT_LIMIT;
 use std::alloc::Global;
 
 /// The most commands of a script.

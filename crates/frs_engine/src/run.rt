@@ -22,9 +22,9 @@ use std::thread::Threads;
 /// What a run gives back.
 #[derive(Drop)]
 pub struct Ended<D, H> {
-    /// How it ended: 0 where all was done, 2 where a line of the script is refused, 3 where the disk failed, 5 where a
-    /// file wasn't read, 6 where the sink failed, 8 where a limit was met, 9 where there was no memory, 10 where it can't
-    /// be run yet.
+    /// How it ended: 0 where all was done, 2 where a line of the script is refused, 3 where the disk failed, 5 where
+    /// a file wasn't read, 6 where the sink failed, 8 where a limit was met, 9 where there was no memory, 10 where it
+    /// can't be run yet.
     pub status: u8,
     /// The disk, as the run left it.
     pub disk: D,
@@ -84,10 +84,10 @@ fn attempt<D: Disk, F: Files>(alloc: Global, plan: &RunPlan, disk: D, files: &mu
 /// disk of a number above those of its files. The shelf comes back as it was. Nothing waits yet,
 /// and the turn is told nothing.
 ///
-/// The status is 0 where all was done, 2 where a line of the script is refused, 3 where the disk failed, 5 where the file
-/// wasn't read, 6 where the sink failed after a run that was whole, 8 where there are more than 64 files or the script has
-/// a command too many, 9 where there was no memory, and 10 where there are 2 to 64 files or a demo is asked for, or the
-/// script has another command, or the disk lists a file.
+/// The status is 0 where all was done, 2 where a line of the script is refused, 3 where the disk failed, 5 where the
+/// file wasn't read, 6 where the sink failed after a run that was whole, 8 where there are more than 64 files or the
+/// script has a command too many, 9 where there was no memory, and 10 where there are 2 to 64 files or a demo is
+/// asked for, or the script has another command, or the disk lists a file.
 pub fn frs_run<
     R: Threads + Wait + Sync,
     D: Disk + Send,
@@ -121,6 +121,8 @@ pub fn frs_run<
 
     // What it leaves.
     ensures left_alone { LeavesAlone D.Disk disk result.disk result.status }
+    ensures again { result.status ≡ 0 → IsTrue (D.tells result.disk)
+        → NoneRemovedAbove D.Disk result.disk }
     ensures files { LeavesFiles F.Files (handed plan.now disk result.disk files.old files.new) }
     ensures frame { GoesOn D.Disk disk result.disk }
     ensures shelf { result.shelf ≡ shelf }

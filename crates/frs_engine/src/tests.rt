@@ -1,5 +1,5 @@
 //! Runs over the forms in memory: their texts, statuses and bytes, and what a crash behind each call leaves.
-ghost use Rattle.std.specs.Prelude.{◌<◌, ◌≤◌, ◌^◌, IfOk, length};
+ghost use Rattle.std.specs.Prelude.{◌≡◌, ◌<◌, ◌≤◌, ◌^◌, IfOk, length};
 ghost use Rattle.frs_engine.specs.Runs.{HasWork};
 ghost use Rattle.frs_disk.specs.Frames.{NoneRemovedAbove};
 
@@ -111,6 +111,8 @@ fn run_plan<R: Threads + Wait + Sync>(
 ) -> Result<Left, NoMemory>
     requires work { HasWork plan.now }
     requires pending { NoneRemovedAbove ⟦<MemDisk as frs_disk::Disk>⟧ disk }
+    ensures { IfOk result (λ left. left.status ≡ 0
+        → NoneRemovedAbove ⟦<MemDisk as frs_disk::Disk>⟧ left.disk) }
 {
     let mut files = files;
     let mut sink = MemSink::of(alloc, failing)?;
@@ -133,6 +135,8 @@ fn run_on<R: Threads + Wait + Sync>(
 ) -> Result<Left, NoMemory>
     requires short { length script.now < 2 ^ 32 }
     requires pending { NoneRemovedAbove ⟦<MemDisk as frs_disk::Disk>⟧ disk }
+    ensures { IfOk result (λ left. left.status ≡ 0
+        → NoneRemovedAbove ⟦<MemDisk as frs_disk::Disk>⟧ left.disk) }
 {
     let plan = plan_of(alloc, "a")?;
     let files = files_of(alloc, script)?;
@@ -144,7 +148,10 @@ pub(crate) fn run<R: Threads + Wait + Sync>(
     alloc: Global,
     script: &[u8],
     plan: FaultPlan,
-) -> Result<Left, NoMemory> {
+) -> Result<Left, NoMemory>
+    ensures { IfOk result (λ left. left.status ≡ 0
+        → NoneRemovedAbove ⟦<MemDisk as frs_disk::Disk>⟧ left.disk) }
+{
     if script.len() >= 1 << 32 {
         return Err(NoMemory);
     }
@@ -425,8 +432,8 @@ fn has_header(read: Read, number: u64, bytes: &[u8]) -> Option<bool> {
     )
 }
 
-// The open files are segments that follow each other from LSN 1 on, and their puts are the first ones of the script. The
-// files have the numbers from 1 on, and each but the newest is such a segment and has a record.
+// The open files are segments that follow each other from LSN 1 on, and their puts are the first ones of the script.
+// The files have the numbers from 1 on, and each but the newest is such a segment and has a record.
 fn read_files(files: &[(u64, Vec<u8>)], len: usize) -> Option<Read> {
     let mut read = Read { next: 1, puts: 0 };
     let mut expected = 1u64;
@@ -639,5 +646,21 @@ fn a_disk_that_lists_a_file_is_put_off(rt: HostRuntime) -> Result<(), Fail> {
     let left = run_on(&rt, alloc, b"put m k v\n", disk, Vec::new(alloc))?;
     assert!(rt; left.is(10, b"later\n"));
     assert!(rt; left.has_segment(&[1]));
+    Ok(())
+}
+
+// A run that was whole gives back a disk on which the next one may be made, without a restart. So far it is put off,
+// since the disk lists a file.
+#[test]
+fn a_disk_that_comes_back_is_run_on_again(rt: HostRuntime) -> Result<(), Fail> {
+    let alloc = rt.alloc();
+    let left = run(&rt, alloc, b"put m k v\n", no_fault(alloc))?;
+    if left.status != 0 {
+        panic!(rt; "the first run is whole")
+    }
+    let Left { disk, .. } = left;
+    let again = run_on(&rt, alloc, b"get m k\n", disk, Vec::new(alloc))?;
+    assert!(rt; again.is(10, b"later\n"));
+    assert!(rt; again.has_segment(&SEGMENT));
     Ok(())
 }

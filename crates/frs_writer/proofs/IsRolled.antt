@@ -42,11 +42,11 @@ module _ {D : Type 0} (g : Ghosts D)
 
   -- the writer with the new segment
   abbrev pub rolled_view : WriterView D
-  rolled_view = record { opened = w.opened; disk = d; taker = w.taker; kept = w.kept; segments = w.segments ++ places_of_segment (new_segment next_number (w.synced + 1)) ∷ []; noted = w.noted; synced = w.synced; ended = None }
+  rolled_view = record { opened = w.opened; disk = d; taker = w.taker; kept = w.kept; segments = w.segments ++ places_of_segment (new_segment next_number (w.synced + 1)) ∷ []; noted = w.noted; pins = w.pins; older = w.older; synced = w.synced; lowest = w.lowest; ended = None }
 
   -- and where its making was cut short
   abbrev pub cut_view : Fault → WriterView D
-  cut_view fault = record { opened = w.opened; disk = d; taker = w.taker; kept = w.kept; segments = w.segments; noted = w.noted; synced = w.synced; ended = Some fault }
+  cut_view fault = record { opened = w.opened; disk = d; taker = w.taker; kept = w.kept; segments = w.segments; noted = w.noted; pins = w.pins; older = w.older; synced = w.synced; lowest = w.lowest; ended = Some fault }
 
   -- the newest segment as it was found
   pub at_newest : (s : Segment) (n : ℕ) → n ≡ length w.segments → s ≡ get_or w.segments (n - 1) s → s ≡ kept.counted.newest

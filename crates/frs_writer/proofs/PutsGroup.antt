@@ -49,10 +49,10 @@ module _ {D : Type 0} (w : WriterView D) (counted : IsCounted w) (limit : ℕ) (
       omega (arith, first, ap length taken_are, length-append written (option_to_list still))
 
   -- a group was written
-  pub counted_grown : (d : D) (segments : List Segment) → w.ended ≡ None → 1 ≤ length group → counted.newest.length < 2 ^ 20
+  pub counted_grown : (d : D) (low : ℕ) (segments : List Segment) → w.ended ≡ None → 1 ≤ length group → counted.newest.length < 2 ^ 20
       → segments ≡ counted.older ++ with_chunk_place (length group) (length (joined_records group)) counted.newest ∷ []
-      → IsCounted (record { opened = w.opened; disk = d; taker = t; kept = still; segments = segments; noted = w.noted; synced = w.synced + length group; ended = None })
-  counted_grown d segments fine some short is =
+      → IsCounted (record { opened = w.opened; disk = d; taker = t; kept = still; segments = segments; noted = w.noted; pins = w.pins; older = w.older; synced = w.synced + length group; lowest = low; ended = None })
+  counted_grown d low segments fine some short is =
       let (written, taken_are, first) = group_written fine in
       record {
         older = counted.older;
@@ -72,7 +72,7 @@ module _ {D : Type 0} (w : WriterView D) (counted : IsCounted w) (limit : ℕ) (
 
   -- nothing was there to be written
   pub counted_none : w.ended ≡ None → length group ≡ 0
-      → IsCounted (record { opened = w.opened; disk = w.disk; taker = t; kept = still; segments = w.segments; noted = w.noted; synced = w.synced; ended = None })
+      → IsCounted (record { opened = w.opened; disk = w.disk; taker = t; kept = still; segments = w.segments; noted = w.noted; pins = w.pins; older = w.older; synced = w.synced; lowest = w.lowest; ended = None })
   counted_none fine none =
       let (written, taken_are, first) = group_written fine in
       record {
@@ -92,7 +92,7 @@ module _ {D : Type 0} (w : WriterView D) (counted : IsCounted w) (limit : ℕ) (
       }
 
   -- a group was taken, and its write was cut short
-  pub counted_failed : (d : D) (fault : Fault) → IsCounted (record { opened = w.opened; disk = d; taker = t; kept = still; segments = w.segments; noted = w.noted; synced = w.synced; ended = Some fault })
+  pub counted_failed : (d : D) (fault : Fault) → IsCounted (record { opened = w.opened; disk = d; taker = t; kept = still; segments = w.segments; noted = w.noted; pins = w.pins; older = w.older; synced = w.synced; lowest = w.lowest; ended = Some fault })
   counted_failed d fault = record {
     older = counted.older;
     newest = counted.newest;
@@ -143,17 +143,17 @@ module _ {D : Type 0} (g : Ghosts D) (old new : D) (s : Segment) (work : IsAtWor
 module _ {D : Type 0} (g : Ghosts D) (as_read : (disk : D) → IsTrue (g.tells disk) → g.may_leave disk (g.reads disk))
     (counts_now : (disk : D) (t : ℕ) (c : Image) → t ≤ g.moment disk → g.may_leave disk c → g.left_since disk t c)
     (w : WriterView D) (kept : IsKept g w) (fine : w.ended ≡ None)
-    (limit : ℕ) (t : TakerView) (still : Option (List ℕ)) (group : List (List ℕ)) (gathered : GathersGroup limit w.taker t w.kept still group) (d : D) where
+    (limit : ℕ) (t : TakerView) (still : Option (List ℕ)) (group : List (List ℕ)) (gathered : GathersGroup limit w.taker t w.kept still group) (d : D) (low : ℕ) where
   abbrev pub newest : Segment
   newest = kept.counted.newest
 
   -- the writer where the group is durable
   abbrev pub grown_view : WriterView D
-  grown_view = record { opened = w.opened; disk = d; taker = t; kept = still; segments = with_newest_grown (length group) (length (joined_records group)) w.segments; noted = w.noted; synced = w.synced + length group; ended = None }
+  grown_view = record { opened = w.opened; disk = d; taker = t; kept = still; segments = with_newest_grown (length group) (length (joined_records group)) w.segments; noted = w.noted; pins = w.pins; older = w.older; synced = w.synced + length group; lowest = low; ended = None }
 
   -- and where its write was cut short
   abbrev pub failed_view : Fault → WriterView D
-  failed_view fault = record { opened = w.opened; disk = d; taker = t; kept = still; segments = w.segments; noted = w.noted; synced = w.synced; ended = Some fault }
+  failed_view fault = record { opened = w.opened; disk = d; taker = t; kept = still; segments = w.segments; noted = w.noted; pins = w.pins; older = w.older; synced = w.synced; lowest = w.lowest; ended = Some fault }
 
   bound : next_taken t ≤ 2 ^ 62
   bound = gathered.within kept.counted.most
@@ -209,7 +209,7 @@ module _ {D : Type 0} (g : Ghosts D) (as_read : (disk : D) → IsTrue (g.tells d
       pub kept_grown : IsKept g grown_view
       unfolding counted_grown
       kept_grown = record {
-        counted = counted_grown w kept.counted limit t still group gathered d (with_newest_grown (length group) (length (joined_records group)) w.segments) fine some short segments_are;
+        counted = counted_grown w kept.counted limit t still group gathered d low (with_newest_grown (length group) (length (joined_records group)) w.segments) fine some short segments_are;
         told = frame.told ∙ kept.told;
         at_work = λ none told. work_grown g w.disk d newest (kept.at_work fine (told_before told)) kept.counted.long.0 (w.synced + 1) (length group) group durable (frame.others (told_before told)) frame.pending (written (told_before told));
         holds = λ told well log' is_log placed.

@@ -1,17 +1,20 @@
 -- What an image spells that shows a part of the log.
-use Rattle.std.proofs.Common.{◌≡◌, ℕ, ◌+◌, ◌-◌, ◌≤◌, true, List, [], ◌++◌, length, take, drop, None, sym, ◌∙◌, ap, subst, arith, length-append, take-append-drop, IsTrue}
+use Rattle.std.proofs.Common.{◌≡◌, inl, inr, ℕ, ◌+◌, ◌-◌, ◌<◌, ◌≤◌, true, List, [], ◌++◌, length, take, drop, Option, Some, None, IsSome, refl, sym, ◌∙◌, ap, subst, arith, length-append, take-append-drop, IsTrue}
 use Rattle.std.proofs.Math.Seq.{take-append-add}
+use Rattle.std.proofs.lemmas.Bool.{cases_lt}
 use Rattle.std.proofs.lemmas.List.{length-map}
-use Rattle.std.specs.FinMap.{entries}
+use Rattle.std.specs.FinMap.{entries, get}
 use Rattle.frs_types.specs.declared.record.Record.{Record}
 use Rattle.frs_types.specs.Records.{Log, IsPlaced, next_lsn, are_placed_from, named_lowest}
 use Rattle.frs_disk.specs.declared.disk.Disk.{Ghosts}
 use Rattle.frs_disk.specs.Disk.{Image}
-use Rattle.frs_disk.specs.Frames.{IsSynced}
+use Rattle.frs_disk.specs.Frames.{IsSynced, NoneRemovedAbove}
 use Rattle.frs_frame.specs.Spelling.{spelling}
 use Rattle.frs_segment.specs.Segments.{Spells}
 use Rattle.frs_segment.specs.Stores.{log_up_to}
-use Rattle.frs_writer.specs.Invariant.{ShowsFrom, durable_of, ShowsDurable, IsKept}
+use Rattle.frs_segment.specs.declared.layout.Segment.{Segment}
+use Rattle.frs_writer.specs.Gates.{IsAtGate}
+use Rattle.frs_writer.specs.Invariant.{IsAtWork, ShowsFrom, durable_of, ShowsDurable, IsKept}
 use Rattle.frs_writer.specs.Places.{number_of_newest}
 use Rattle.frs_writer.specs.Writer.{WriterView, IsLog, IsWellOpened}
 use Rattle.frs_writer.specs.Writing.{SpellsFrom}
@@ -59,3 +62,18 @@ pub newest_synced : {D : Type 0} (g : Ghosts D) (w : WriterView D) (kept : IsKep
     → w.ended ≡ None → IsTrue (g.tells w.disk) → IsSynced g w.disk (number_of_newest w.segments)
 newest_synced g w kept fine told =
     subst (λ (n : ℕ). IsSynced g w.disk n) (sym (newest_number kept.counted.older kept.counted.newest) ∙ ap number_of_newest (sym kept.counted.segments)) (kept.at_work fine told).durable
+
+-- no removal is pending above the newest file
+pub none_pending : {D : Type 0} (g : Ghosts D) (disk : D) (newest : Segment) → IsAtWork g disk newest → NoneRemovedAbove g disk
+none_pending g disk newest work n pends = (
+  newest.number,
+  some_there (get (g.reads disk) newest.number) work.gate,
+  elim (cases_lt newest.number n) [
+    | inl lt ↦ absurd (work.none_removed n lt pends)
+    | inr le ↦ le
+  ],
+)
+  where
+    some_there : (file : Option (List ℕ)) → IsAtGate (newest.length - 1) file → IsSome file
+    some_there None gate = absurd gate
+    some_there (Some bytes) gate = refl

@@ -1,5 +1,5 @@
 -- How a roll and a write behind it join into a call of `write_group`.
-use Rattle.std.proofs.Common.{◌≡◌, ◌⊎◌, inl, inr, ⊎_elim, ℕ, ◌+◌, ◌≤◌, Bool, true, false, List, [], ◌++◌, length, None, refl, sym, ◌∙◌, ap, subst, arith, append_assoc, IsTrue}
+use Rattle.std.proofs.Common.{◌≡◌, ◌⊎◌, inl, inr, ⊎_elim, ℕ, ◌+◌, ◌≤◌, Bool, true, false, List, [], ◌++◌, length, Option, None, refl, sym, ◌∙◌, ap, subst, arith, append_assoc, IsTrue}
 use Rattle.std.specs.Prelude.{Result, Ok, Err, nat_lt, if◌then◌else◌}
 use Rattle.std.proofs.lemmas.List.{append-nil}
 use Rattle.std.specs.FinMap.{entries}
@@ -11,10 +11,10 @@ use Rattle.frs_disk.specs.Frames.{Within, GoesOn, LeftNoFile}
 use Rattle.frs_disk.proofs.Moments.{within_join}
 use Rattle.frs_segment.specs.declared.layout.Segment.{Segment}
 use Rattle.frs_segment.specs.Segments.{Spells}
-use Rattle.frs_slots.specs.Views.{TakerView}
+use Rattle.frs_slots.specs.Views.{TakerView, IsOneMore, MissedRecord}
 use Rattle.frs_writer.specs.declared.fault.WriteFault.{WriteFault}
 use Rattle.frs_writer.specs.declared.fault.WriteFault.TheVariants.{Disk, Broken, NumberLimit, Memory}
-use Rattle.frs_writer.specs.Groups.{joined_records, GathersGroup}
+use Rattle.frs_writer.specs.Groups.{joined_records, lowest_of_last, GathersGroup}
 use Rattle.frs_writer.specs.Invariant.{ShowsFrom}
 use Rattle.frs_writer.specs.Places.{with_newest_grown}
 use Rattle.frs_writer.specs.Writer.{WriterView, IsLog, WasEmpty, IsWellOpened}
@@ -44,23 +44,43 @@ log_before g w w' takes log' l =
 
 -- ---- where nothing was written
 
-pub takes_none : {D : Type 0} (old new : WriterView D) → new.opened ≡ old.opened → new.noted ≡ old.noted → new.taker ≡ old.taker → TakesMore old new
-takes_none old new opened noted same = record {
+pub takes_none : {D : Type 0} (old new : WriterView D) → new.opened ≡ old.opened → new.noted ≡ old.noted → new.pins ≡ old.pins → new.older ≡ old.older → new.taker ≡ old.taker → TakesMore old new
+takes_none old new opened noted pins older same = record {
   opened = opened;
   noted = noted;
+  pins = pins;
+  older = older;
   ring = (ap (λ (t : TakerView). t.ring) same, ap (λ (t : TakerView). t.first) same);
   known = omega (arith, ap (λ (t : TakerView). t.known) same);
   sure = omega (arith, ap (λ (t : TakerView). t.sure) same);
+  misses = inl (ap (λ (t : TakerView). t.misses) same);
   more = [];
   taken = ap (λ (t : TakerView). t.taken) same ∙ sym (append-nil old.taker.taken);
 }
 
+-- where a group was gathered
+pub gathered_takes : {D : Type 0} (limit : ℕ) (old new : WriterView D) (kept still : Option (List ℕ)) (group : List (List ℕ)) → GathersGroup limit old.taker new.taker kept still group
+    → new.opened ≡ old.opened → new.noted ≡ old.noted → new.pins ≡ old.pins → new.older ≡ old.older → TakesMore old new
+gathered_takes limit old new kept still group gathered opened noted pins older = record {
+  opened = opened;
+  noted = noted;
+  pins = pins;
+  older = older;
+  ring = gathered.ring;
+  known = gathered.known;
+  sure = gathered.sure;
+  misses = gathered.misses;
+  more = gathered.taken;
+  taken = gathered.taken_are;
+}
+
 pub stopped_refused : {D : Type 0} (g : Ghosts D) (limit : ℕ) (w : WriterView D) → (w.ended ≡ None → ⊥) → IsLeftRefused g limit w w
-stopped_refused g limit w stopped = record { synced = refl; segments = inl refl; cut = λ here fine. absurd (stopped fine) }
+stopped_refused g limit w stopped = record { synced = refl; lowest = refl; segments = inl refl; cut = λ here fine. absurd (stopped fine) }
 
 pub roll_refused : {D : Type 0} (g : Ghosts D) (limit : ℕ) (old new : WriterView D) → new ≡ record old { disk = new.disk; ended = new.ended } → is_due old ≡ true → IsLeftRefused g limit old new
 roll_refused {D = D} g limit old new is due = record {
   synced = ap (λ (w : WriterView D). w.synced) is;
+  lowest = ap (λ (w : WriterView D). w.lowest) is;
   segments = inl (ap (λ (w : WriterView D). w.segments) is);
   cut = λ here fine. absurd (both (sym due ∙ here));
 }
@@ -77,6 +97,9 @@ module _ {D : Type 0} (g : Ghosts D) (old mid new : WriterView D) (rolled : IsRo
   taker_mid : mid.taker ≡ old.taker
   taker_mid = ap (λ (w : WriterView D). w.taker) rolled.view
 
+  lowest_mid : mid.lowest ≡ old.lowest
+  lowest_mid = ap (λ (w : WriterView D). w.lowest) rolled.view
+
   synced_mid : mid.synced ≡ old.synced
   synced_mid = ap (λ (w : WriterView D). w.synced) rolled.view
 
@@ -84,9 +107,12 @@ module _ {D : Type 0} (g : Ghosts D) (old mid new : WriterView D) (rolled : IsRo
   joined_takes = record {
     opened = takes.opened ∙ opened_mid;
     noted = takes.noted ∙ ap (λ (w : WriterView D). w.noted) rolled.view;
+    pins = takes.pins ∙ ap (λ (w : WriterView D). w.pins) rolled.view;
+    older = takes.older ∙ ap (λ (w : WriterView D). w.older) rolled.view;
     ring = (takes.ring.0 ∙ ap (λ (t : TakerView). t.ring) taker_mid, takes.ring.1 ∙ ap (λ (t : TakerView). t.first) taker_mid);
     known = subst (λ (t : TakerView). t.known ≤ new.taker.known) taker_mid takes.known;
     sure = subst (λ (t : TakerView). t.sure ≤ new.taker.sure) taker_mid takes.sure;
+    misses = subst (λ (t : TakerView). (new.taker.misses ≡ t.misses) ⊎ IsOneMore t.misses new.taker.misses) taker_mid takes.misses;
     more = takes.more;
     taken = takes.taken ∙ ap (λ (t : TakerView). t.taken ++ takes.more) taker_mid;
   }
@@ -98,6 +124,7 @@ module _ {D : Type 0} (g : Ghosts D) (old mid new : WriterView D) (rolled : IsRo
   pub joined_refused : (limit : ℕ) → StopsWrite g limit mid new → IsLeftRefused g limit old new
   joined_refused limit stops = record {
     synced = stops.synced ∙ synced_mid;
+    lowest = stops.lowest ∙ lowest_mid;
     segments = by (is_due old) refl;
     cut = λ here fine. ⊎_elim inl (λ some. inr (some.0, some.1, gathers_mid limit some.0 some.2)) stops.gathered;
   }
@@ -111,8 +138,9 @@ module _ {D : Type 0} (g : Ghosts D) (old mid new : WriterView D) (rolled : IsRo
     group = wrote.group;
     gathers = gathers_mid limit wrote.group wrote.gathers;
     counted = wrote.counted;
-    none = λ zero. let (was, now) = wrote.none zero in (sym (ap (λ (w : WriterView D). w.kept) rolled.view) ∙ was, now);
+    none = λ zero. let (was, now, missed) = wrote.none zero in (sym (ap (λ (w : WriterView D). w.kept) rolled.view) ∙ was, now, subst (λ (t : TakerView). MissedRecord t new.taker) taker_mid missed);
     synced = wrote.synced ∙ ap (λ (n : ℕ). n + count) synced_mid;
+    lowest = wrote.lowest ∙ ap (λ (n : ℕ). lowest_of_last n wrote.group) lowest_mid;
     segments = wrote.segments ∙ ap (λ (l : List Segment). if nat_lt 0 count then with_newest_grown count (length (joined_records wrote.group)) l else l)
         (not_due mid rolled.here ∙ ap (λ (w : WriterView D). w.segments) rolled.view);
   }
@@ -138,6 +166,7 @@ module _ {D : Type 0} (g : Ghosts D) (old mid new : WriterView D) (rolled : IsRo
   joined_durable first durable = record {
     spelled = λ told. durable.spelled (subst IsTrue (sym first.told) told);
     newest = λ told. durable.newest (subst IsTrue (sym first.told) told);
+    pending = λ told. durable.pending (subst IsTrue (sym first.told) told);
     whole = λ told. durable.whole (subst IsTrue (sym first.told) told);
   }
 

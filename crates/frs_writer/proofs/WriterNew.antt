@@ -1,5 +1,5 @@
 -- What holds of a writer that was just opened on the files that were found.
-use Rattle.std.proofs.Common.{◌≡◌, ◌≢◌, ◌⊎◌, ⊎_elim, ℕ, ◌+◌, ◌-◌, ◌^◌, ◌<◌, ◌≤◌, List, [], ◌∷◌, ◌++◌, length, take, map, replicate, Some, None, IsSome, refl, sym, ◌∙◌, ap, subst, arith, IsTrue}
+use Rattle.std.proofs.Common.{◌≡◌, ◌≢◌, ◌⊎◌, ⊎_elim, ℕ, ◌+◌, ◌-◌, ◌^◌, ◌<◌, ◌≤◌, List, [], ◌∷◌, ◌++◌, length, take, map, replicate, Option, Some, None, IsSome, refl, sym, ◌∙◌, ap, subst, arith, IsTrue}
 use Rattle.std.specs.Prelude.{Contains, unwrap_or}
 use Rattle.std.specs.List.{last_or}
 use Rattle.std.proofs.lemmas.List.{append-nil, map-append, take_all, length-replicate}
@@ -30,6 +30,7 @@ use Rattle.frs_writer.proofs.IsFound.{found_above, found_none_removed, found_hal
 use Rattle.frs_writer.proofs.IsOpening.{opening_shows, opening_rests, opening_spells}
 use Rattle.frs_writer.proofs.IsRolled.{empty_gate}
 use Rattle.frs_writer.proofs.ShowsLog.{base_lowest, shows_as, rests_as, rests_shows, rests_open}
+use Rattle.frs_writer.proofs.SpellsFrom.{none_pending}
 use Rattle.frs_writer.proofs.HoldsLog.{shows_whole, shows_open, spelled_none}
 
 pub none_failed : None ≡ Some Failed → ⊥
@@ -153,7 +154,7 @@ module _ {D : Type 0} (g : Ghosts D)
 
   -- ---- the writer
 
-  module _ (clients : ℕ) (some : (1 ≤ clients) × (clients ≤ CLIENT_LIMIT))
+  module _ (clients : ℕ) (some : (1 ≤ clients) × (clients ≤ CLIENT_LIMIT)) (pins : List (Option ℕ)) (older : List ℕ) (lowest : ℕ)
       (later : g.moment old ≤ g.moment new) (told_same : g.tells new ≡ g.tells old) (durable : IsSynced g new number)
       (made : IsTrue (g.tells old) → get (g.reads new) number ≡ Some (empty_segment number first))
       (others : IsTrue (g.tells old) → (q : ℕ) → number < q → get (g.reads old) q ≡ None → get (g.reads new) q ≡ None)
@@ -162,7 +163,7 @@ module _ {D : Type 0} (g : Ghosts D)
     next_segment = places_of_segment (new_segment number first)
 
     abbrev view : D → List Segment → List ℕ → WriterView D
-    view opened segments noted = record { opened = opened; disk = new; taker = taker; kept = None; segments = segments; noted = noted; synced = first - 1; ended = None }
+    view opened segments noted = record { opened = opened; disk = new; taker = taker; kept = None; segments = segments; noted = noted; pins = pins; older = older; synced = first - 1; lowest = lowest; ended = None }
 
     abbrev begun : WriterView D
     begun = view old (found.segments ++ next_segment ∷ []) (replicate clients 0)
@@ -234,6 +235,9 @@ module _ {D : Type 0} (g : Ghosts D)
       log_is : (log : Log) → IsLog g begun log → log ≡ base
       log_is log l =
           base_is l.base log l.taken (none_taken taker.taken l.taken begins.0 l.bytes) l.is ∙ found_log told segments base is l.base l.spelled
+
+    pub none_pends : IsTrue (g.tells old) → NoneRemovedAbove g new
+    none_pends told = none_pending g new next_segment (begun_at_work told)
 
     -- and afterwards, where that was nothing
     pub durable_none : IsTrue (g.tells old) → IsWellOpened g old → WasEmpty g old → (c : Image) → g.may_leave new c → HoldsLog (LeftNoFile g old) 0 (entries c) []

@@ -11,16 +11,16 @@ use Rattle.frs_disk.specs.Disk.{Image, Rose, HasCause, bytes_at}
 use Rattle.frs_disk.specs.Frames.{Within, LeftNoFile}
 use Rattle.frs_segment.specs.declared.layout.Segment.{Segment}
 use Rattle.frs_segment.specs.Segments.{Spells}
-use Rattle.frs_slots.specs.Views.{TakerView}
+use Rattle.frs_slots.specs.Views.{TakerView, MissedRecord}
 use Rattle.frs_writer.specs.Gates.{IsShut, sealed_chunk}
-use Rattle.frs_writer.specs.Groups.{joined_records, GathersGroup, PutsGroup}
+use Rattle.frs_writer.specs.Groups.{joined_records, lowest_of_last, GathersGroup, PutsGroup}
 use Rattle.frs_writer.specs.Invariant.{ShowsFrom, IsKept}
 use Rattle.frs_segment.specs.Scanning.{places_of_segment}
 use Rattle.frs_writer.specs.Places.{with_chunk_place, with_newest_grown, length_of_newest, number_of_newest}
 use Rattle.frs_writer.specs.LogImages.{new_segment}
 use Rattle.frs_writer.specs.Writer.{WriterView, IsLog, WasEmpty, IsWellOpened}
 use Rattle.frs_writer.specs.Writing.{is_due, segments_after_roll, WritesGroup, StopsWrite}
-use Rattle.frs_writer.proofs.GathersGroup.{nothing_gathered}
+use Rattle.frs_writer.proofs.GathersGroup.{nothing_gathered, nothing_missed}
 use Rattle.frs_writer.proofs.PutsGroup.{kept_grown, kept_failed, images_shown, group_within_lsns}
 use Rattle.frs_writer.proofs.IsRolled.{kept_same}
 use Rattle.frs_writer.proofs.Places.{newest_grown, newest_length, newest_number}
@@ -43,6 +43,10 @@ at_refusal (Ok x) q = tt
 at_refusal (Err e) q = q
 
 -- there is something where it has a property
+of_none : (n : ℕ) (group : List (List ℕ)) → length group ≡ 0 → lowest_of_last n group ≡ n
+of_none n [] none = refl
+of_none n (b ∷ group) none = absurd (omega (arith, none))
+
 some_has : {X : Type 0} (P : X → Type 0) (o : Option X) → IsSomeAnd o P → IsSome o
 some_has P None is = absurd is
 some_has P (Some x) is = refl
@@ -53,39 +57,39 @@ module _ {D : Type 0} (g : Ghosts D) (as_read : (disk : D) → IsTrue (g.tells d
     (w : WriterView D) (kept : IsKept g w) (fine : w.ended ≡ None)
     (limit : ℕ) (few : limit ≤ 256) (t : TakerView) (still : Option (List ℕ)) (group : List (List ℕ)) (gathered : GathersGroup limit w.taker t w.kept still group) (d : D)
     (after : Segment) (result : Result ℕ Fault) (put : IsPut g w.disk d kept.counted.newest after group result)
-    (short : 1 ≤ length group → kept.counted.newest.length < 2 ^ 20) where
+    (short : 1 ≤ length group → kept.counted.newest.length < 2 ^ 20) (low : ℕ) (low_is : low ≡ lowest_of_last w.lowest group) where
   abbrev pub newest : Segment
   newest = kept.counted.newest
 
-  abbrev pub view : List Segment → ℕ → Option Fault → WriterView D
-  view segments synced ended = record { opened = w.opened; disk = d; taker = t; kept = still; segments = segments; noted = w.noted; synced = synced; ended = ended }
+  abbrev pub view : ℕ → List Segment → ℕ → Option Fault → WriterView D
+  view lowest segments synced ended = record { opened = w.opened; disk = d; taker = t; kept = still; segments = segments; noted = w.noted; pins = w.pins; older = w.older; synced = synced; lowest = lowest; ended = ended }
 
   images_of : (some : 1 ≤ length group) → IsTrue (g.tells w.disk) → Within g w.disk d (λ c. IsShut (take (newest.length - 1) (bytes_at (g.reads w.disk) newest.number)) (get c newest.number)
       ⊎ (get c newest.number ≡ Some (take (newest.length - 1) (bytes_at (g.reads w.disk) newest.number) ++ 1 ∷ sealed_chunk (w.synced + 1) (length group) (joined_records group))))
   images_of some told = subst (λ (n : ℕ). Within g w.disk d (λ c. IsShut (take (newest.length - 1) (bytes_at (g.reads w.disk) newest.number)) (get c newest.number)
       ⊎ (get c newest.number ≡ Some (take (newest.length - 1) (bytes_at (g.reads w.disk) newest.number) ++ 1 ∷ sealed_chunk n (length group) (joined_records group))))) kept.counted.ends ((put.some some).images told)
 
-  pub err_kept : (fault : Fault) → result ≡ Err fault → (segments : List Segment) → segments ≡ kept.counted.older ++ after ∷ [] → IsKept g (view segments w.synced (Some fault))
+  pub err_kept : (fault : Fault) → result ≡ Err fault → (segments : List Segment) → segments ≡ kept.counted.older ++ after ∷ [] → IsKept g (view w.lowest segments w.synced (Some fault))
   err_kept fault is segments are = elim (cases_lt 0 (length group)) [
     | inl lt ↦
         let some : 1 ≤ length group = omega (arith, lt) in
         let p : PutsGroup g w.disk d newest after group (Err fault) = subst (λ (r : Result ℕ Fault). PutsGroup g w.disk d newest after group r) is (put.some some) in
-        subst (λ (s : List Segment). IsKept g (view s w.synced (Some fault))) (kept.counted.segments ∙ ap (λ (s : Segment). kept.counted.older ++ s ∷ []) (sym p.refused) ∙ sym are)
-        (kept_failed g as_read counts_now w kept fine limit t still group gathered d p.frame (omega (arith, gathered.most, few)) some (images_of some) fault)
+        subst (λ (s : List Segment). IsKept g (view w.lowest s w.synced (Some fault))) (kept.counted.segments ∙ ap (λ (s : Segment). kept.counted.older ++ s ∷ []) (sym p.refused) ∙ sym are)
+        (kept_failed g as_read counts_now w kept fine limit t still group gathered d low p.frame (omega (arith, gathered.most, few)) some (images_of some) fault)
     | inr ge ↦ absurd (not_err 0 fault result (put.none (omega (arith, ge))).0 is)
   ]
 
-  pub ok_kept : (count : ℕ) → result ≡ Ok count → (segments : List Segment) → segments ≡ kept.counted.older ++ after ∷ [] → IsKept g (view segments (w.synced + count) w.ended)
-  ok_kept count is segments are = subst (λ (e : Option Fault). IsKept g (view segments (w.synced + count) e)) (sym fine) (elim (cases_lt 0 (length group)) [
+  pub ok_kept : (count : ℕ) → result ≡ Ok count → (segments : List Segment) → segments ≡ kept.counted.older ++ after ∷ [] → IsKept g (view low segments (w.synced + count) w.ended)
+  ok_kept count is segments are = subst (λ (e : Option Fault). IsKept g (view low segments (w.synced + count) e)) (sym fine) (elim (cases_lt 0 (length group)) [
     | inl lt ↦
         let some : 1 ≤ length group = omega (arith, lt) in
         let p : PutsGroup g w.disk d newest after group (Ok count) = subst (λ (r : Result ℕ Fault). PutsGroup g w.disk d newest after group r) is (put.some some) in
         let same : with_newest_grown (length group) (length (joined_records group)) w.segments ≡ segments =
         ap (with_newest_grown (length group) (length (joined_records group))) kept.counted.segments ∙ newest_grown (length group) (length (joined_records group)) kept.counted.older newest
         ∙ ap (λ (s : Segment). kept.counted.older ++ s ∷ []) (sym p.grown_is) ∙ sym are in
-        subst (λ (n : ℕ). IsKept g (view segments (w.synced + n) None)) (sym p.counted)
-        (subst (λ (s : List Segment). IsKept g (view s (w.synced + length group) None)) same
-        (kept_grown g as_read counts_now w kept fine limit t still group gathered d p.frame (omega (arith, gathered.most, few)) some (images_of some)
+        subst (λ (n : ℕ). IsKept g (view low segments (w.synced + n) None)) (sym p.counted)
+        (subst (λ (s : List Segment). IsKept g (view low s (w.synced + length group) None)) same
+        (kept_grown g as_read counts_now w kept fine limit t still group gathered d low p.frame (omega (arith, gathered.most, few)) some (images_of some)
         (short some) p.durable
         (λ told. subst (λ (n : ℕ). get (g.reads d) newest.number ≡ Some (take (newest.length - 1) (bytes_at (g.reads w.disk) newest.number) ++ 1 ∷ sealed_chunk n (length group) (joined_records group))) kept.counted.ends (p.written told))))
     | inr ge ↦
@@ -95,14 +99,15 @@ module _ {D : Type 0} (g : Ghosts D) (as_read : (disk : D) → IsTrue (g.tells d
         let zero : count ≡ 0 = same_count count 0 result is ok in
         let same : w.segments ≡ segments = kept.counted.segments ∙ ap (λ (s : Segment). kept.counted.older ++ s ∷ []) (sym same_segment) ∙ sym are in
         let taken_up : IsKept g (record w { taker = t }) = kept_same g w t gathered.ring.1 taken kept in
-        let plain : IsKept g (record { opened = w.opened; disk = w.disk; taker = t; kept = w.kept; segments = w.segments; noted = w.noted; synced = w.synced; ended = w.ended }) = taken_up in
-        let a : IsKept g (record { opened = w.opened; disk = d; taker = t; kept = w.kept; segments = w.segments; noted = w.noted; synced = w.synced; ended = w.ended }) =
-        subst (λ (x : D). IsKept g (record { opened = w.opened; disk = x; taker = t; kept = w.kept; segments = w.segments; noted = w.noted; synced = w.synced; ended = w.ended })) (sym same_disk) plain in
-        let b : IsKept g (view w.segments w.synced w.ended) =
-        subst (λ (x : Option (List ℕ)). IsKept g (record { opened = w.opened; disk = d; taker = t; kept = x; segments = w.segments; noted = w.noted; synced = w.synced; ended = w.ended })) (was ∙ sym now) a in
-        let e : IsKept g (view segments w.synced w.ended) = subst (λ (s : List Segment). IsKept g (view s w.synced w.ended)) same b in
-        let f : IsKept g (view segments (w.synced + count) w.ended) = subst (λ (n : ℕ). IsKept g (view segments n w.ended)) (omega (arith, zero)) e in
-        subst (λ (x : Option Fault). IsKept g (view segments (w.synced + count) x)) fine f
+        let plain : IsKept g (record { opened = w.opened; disk = w.disk; taker = t; kept = w.kept; segments = w.segments; noted = w.noted; pins = w.pins; older = w.older; synced = w.synced; lowest = w.lowest; ended = w.ended }) = taken_up in
+        let a : IsKept g (record { opened = w.opened; disk = d; taker = t; kept = w.kept; segments = w.segments; noted = w.noted; pins = w.pins; older = w.older; synced = w.synced; lowest = w.lowest; ended = w.ended }) =
+        subst (λ (x : D). IsKept g (record { opened = w.opened; disk = x; taker = t; kept = w.kept; segments = w.segments; noted = w.noted; pins = w.pins; older = w.older; synced = w.synced; lowest = w.lowest; ended = w.ended })) (sym same_disk) plain in
+        let b : IsKept g (view w.lowest w.segments w.synced w.ended) =
+        subst (λ (x : Option (List ℕ)). IsKept g (record { opened = w.opened; disk = d; taker = t; kept = x; segments = w.segments; noted = w.noted; pins = w.pins; older = w.older; synced = w.synced; lowest = w.lowest; ended = w.ended })) (was ∙ sym now) a in
+        let e : IsKept g (view w.lowest segments w.synced w.ended) = subst (λ (s : List Segment). IsKept g (view w.lowest s w.synced w.ended)) same b in
+        let f : IsKept g (view w.lowest segments (w.synced + count) w.ended) = subst (λ (n : ℕ). IsKept g (view w.lowest segments n w.ended)) (omega (arith, zero)) e in
+        let h : IsKept g (view low segments (w.synced + count) w.ended) = subst (λ (n : ℕ). IsKept g (view n segments (w.synced + count) w.ended)) (sym (low_is ∙ of_none w.lowest group none)) f in
+        subst (λ (x : Option Fault). IsKept g (view low segments (w.synced + count) x)) fine h
   ])
 
   pub put_images : (w' : WriterView D) → w'.opened ≡ w.opened → w'.taker ≡ t → IsTrue (g.tells w.disk) → IsWellOpened g w.opened → (log' : Log) → IsLog g w' log' → IsPlaced log'
@@ -111,7 +116,7 @@ module _ {D : Type 0} (g : Ghosts D) (as_read : (disk : D) → IsTrue (g.tells d
     | inl lt ↦
         let some : 1 ≤ length group = omega (arith, lt) in
         let p = put.some some in
-        images_shown g as_read counts_now w kept fine limit t still group gathered d p.frame (omega (arith, gathered.most, few)) some (images_of some)
+        images_shown g as_read counts_now w kept fine limit t still group gathered d low p.frame (omega (arith, gathered.most, few)) some (images_of some)
         w' same taker told well log' is_log placed
     | inr ge ↦
         let none : length group ≡ 0 = omega (arith, ge) in
@@ -127,7 +132,7 @@ module _ {D : Type 0} (g : Ghosts D) (as_read : (disk : D) → IsTrue (g.tells d
         λ c left. (kept.holds told well log' l placed).each c (only_now w.disk c (subst (λ (x : D). g.left_since x (g.moment w.disk) c) same_disk left))
   ]
 
-  pub err_stops : (fault : Fault) → result ≡ Err fault → (segments : List Segment) → segments ≡ kept.counted.older ++ after ∷ [] → StopsWrite g limit w (view segments w.synced (Some fault))
+  pub err_stops : (fault : Fault) → result ≡ Err fault → (segments : List Segment) → segments ≡ kept.counted.older ++ after ∷ [] → StopsWrite g limit w (view w.lowest segments w.synced (Some fault))
   err_stops fault is segments are = elim (cases_lt 0 (length group)) [
     | inl lt ↦
         let some : 1 ≤ length group = omega (arith, lt) in
@@ -135,6 +140,7 @@ module _ {D : Type 0} (g : Ghosts D) (as_read : (disk : D) → IsTrue (g.tells d
         let same : segments ≡ w.segments = are ∙ ap (λ (s : Segment). kept.counted.older ++ s ∷ []) p.refused ∙ sym kept.counted.segments in
         record {
           synced = refl;
+          lowest = refl;
           segments = same;
           there = λ told.
               let image = images_of some (subst IsTrue p.frame.told told) (g.reads d) (counts_now d (g.moment w.disk) (g.reads d) p.frame.time.later (as_read d told)) in
@@ -154,14 +160,15 @@ module _ {D : Type 0} (g : Ghosts D) (as_read : (disk : D) → IsTrue (g.tells d
   ]
 
   -- what was written, as one sees it who saw the writer before it went on to this segment
-  pub put_wrote : (count : ℕ) → result ≡ Ok count → (w0 : WriterView D) → w0.taker ≡ w.taker → w0.kept ≡ w.kept → w0.synced ≡ w.synced → segments_after_roll w0 ≡ w.segments
-      → (segments : List Segment) → segments ≡ kept.counted.older ++ after ∷ [] → (ended : Option Fault) (synced : ℕ) → synced ≡ w.synced + count → WritesGroup limit count w0 (view segments synced ended)
-  put_wrote count is w0 taker kept_same_one synced_same rolls segments are ended synced synced_is = record {
+  pub put_wrote : (count : ℕ) → result ≡ Ok count → 1 ≤ limit → (w0 : WriterView D) → w0.taker ≡ w.taker → w0.kept ≡ w.kept → w0.synced ≡ w.synced → w0.lowest ≡ w.lowest → segments_after_roll w0 ≡ w.segments
+      → (segments : List Segment) → segments ≡ kept.counted.older ++ after ∷ [] → (ended : Option Fault) (synced : ℕ) → synced ≡ w.synced + count → WritesGroup limit count w0 (view low segments synced ended)
+  put_wrote count is least w0 taker kept_same_one synced_same lowest_same rolls segments are ended synced synced_is = record {
     group = group;
     gathers = subst (λ (v : TakerView). GathersGroup limit v t w0.kept still group) (sym taker) (subst (λ (o : Option (List ℕ)). GathersGroup limit w.taker t o still group) (sym kept_same_one) gathered);
     counted = put_counted count is;
-    none = λ zero. let (was, now, taken) = nothing_gathered limit w.taker t w.kept still group gathered (sym (put_counted count is) ∙ zero) in (kept_same_one ∙ was, now);
+    none = λ zero. let (was, now, missed) = nothing_missed limit w.taker t w.kept still group least gathered (sym (put_counted count is) ∙ zero) in (kept_same_one ∙ was, now, subst (λ (v : TakerView). MissedRecord v t) (sym taker) missed);
     synced = synced_is ∙ ap (λ (n : ℕ). n + count) (sym synced_same);
+    lowest = low_is ∙ ap (λ (n : ℕ). lowest_of_last n group) (sym lowest_same);
     segments = elim (cases_lt 0 (length group)) [
       | inl lt ↦
           let some : 1 ≤ length group = omega (arith, lt) in
@@ -184,6 +191,7 @@ module _ {D : Type 0} (g : Ghosts D) (as_read : (disk : D) → IsTrue (g.tells d
 pub unchanged_stops : {D : Type 0} (g : Ghosts D) (w : WriterView D) (kept : IsKept g w) → w.ended ≡ None → (limit : ℕ) → StopsWrite g limit w w
 unchanged_stops g w kept fine limit = record {
   synced = refl;
+  lowest = refl;
   segments = refl;
   there = λ told. subst (λ (n : ℕ). IsSome (get (g.reads w.disk) n)) (sym (ap number_of_newest kept.counted.segments ∙ newest_number kept.counted.older kept.counted.newest))
       (some_has _ (get (g.reads w.disk) kept.counted.newest.number) (kept.at_work fine told).gate);

@@ -15,7 +15,10 @@ view_of a = record {
   kept = a.kept;
   segments = a.segments.items;
   noted = a.noted.items;
+  pins = a.pins.items;
+  older = a.older.items;
   synced = a.synced;
+  lowest = a.lowest;
   ended = a.ended;
 }
 

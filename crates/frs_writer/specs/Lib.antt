@@ -5,6 +5,7 @@ pub mod Inside
 pub mod Invariant
 pub mod LogImages
 pub mod Places
+pub mod Refusals
 pub mod Setup
 pub mod Writer
 pub mod Writing

@@ -19,7 +19,10 @@ pub record WriterView (D : Type 0) : Type 0 where
   pub kept : Option (List ℕ)  -- the record that was taken last, where it waits for the next chunk
   pub segments : List Segment
   pub noted : List ℕ  -- for each client the LSN that was noted as durable
+  pub pins : List (Option ℕ)  -- for each client the LSN up to which it needs the log, if it has said one
+  pub older : List ℕ  -- the files below the segments that the log needs, which may be dropped
   pub synced : ℕ
+  pub lowest : ℕ  -- the lowest LSN that the last durable record names
   pub ended : Option Fault  -- what has cut a write short
 
 -- ---- the log

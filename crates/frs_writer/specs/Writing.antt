@@ -10,7 +10,7 @@ use Rattle.frs_disk.specs.declared.disk.Disk.{Ghosts}
 use Rattle.frs_disk.specs.declared.disk.Fault.{Fault}
 use Rattle.frs_disk.specs.declared.disk.Fault.TheVariants as fault
 use Rattle.frs_disk.specs.Disk.{Image, Rose}
-use Rattle.frs_disk.specs.Frames.{IsSynced, IsThere, LeftNoFile, Within}
+use Rattle.frs_disk.specs.Frames.{IsSynced, IsThere, LeftNoFile, NoneRemovedAbove, Within}
 use Rattle.frs_types.specs.declared.limits.TheConstants.{NUMBER_LIMIT}
 use Rattle.frs_segment.specs.declared.format.TheConstants.{FILE_LIMIT}
 use Rattle.frs_segment.specs.declared.layout.Segment.{Segment}
@@ -19,10 +19,11 @@ use Rattle.frs_segment.specs.Segments.{FileList}
 use Rattle.frs_segment.specs.Scanning.{places_of_segment}
 use Rattle.frs_segment.specs.Order.{IsInOrder}
 use Rattle.frs_segment.specs.Stores.{log_up_to}
+use Rattle.frs_slots.specs.Views.{IsOneMore, MissedRecord}
 use Rattle.frs_writer.specs.declared.fault.Refused.{Refused}
 use Rattle.frs_writer.specs.declared.fault.WriteFault.{WriteFault}
 use Rattle.frs_writer.specs.declared.fault.WriteFault.TheVariants.{Disk, Broken, NumberLimit, Memory}
-use Rattle.frs_writer.specs.Groups.{joined_records, GathersGroup}
+use Rattle.frs_writer.specs.Groups.{joined_records, lowest_of_last, GathersGroup}
 use Rattle.frs_writer.specs.Places.{number_of_newest, length_of_newest, with_newest_grown}
 use Rattle.frs_writer.specs.Invariant.{ShowsFrom}
 use Rattle.frs_writer.specs.LogImages.{new_segment}
@@ -47,27 +48,31 @@ pub record IsRolled {D : Type 0} (old new : WriterView D) : Type 0 where
   pub view : new ≡ record old { disk = new.disk; segments = segments_after_roll old }
   pub here : is_due new ≡ false
 
--- The same disk at the opening, notes and ring, of which it has at most taken more: what was taken stays, and neither
--- number of what is known of the ring falls.
+-- The same disk at the opening, notes, pins, older files and ring, of which it has at most taken more: what was taken
+-- stays, neither number of what is known of the ring falls, and at most one look has missed the next record.
 pub record TakesMore {D : Type 0} (old new : WriterView D) : Type 0 where
   pub opened : new.opened ≡ old.opened
   pub noted : new.noted ≡ old.noted
+  pub pins : new.pins ≡ old.pins
+  pub older : new.older ≡ old.older
   pub ring : (new.taker.ring ≡ old.taker.ring) × (new.taker.first ≡ old.taker.first)
   pub known : old.taker.known ≤ new.taker.known
   pub sure : old.taker.sure ≤ new.taker.sure
+  pub misses : (new.taker.misses ≡ old.taker.misses) ⊎ IsOneMore old.taker.misses new.taker.misses
   pub more : List (List ℕ)
   pub taken : new.taker.taken ≡ old.taker.taken ++ more
 
 -- ---- a group
 
 -- A group was written as one chunk: what was kept before and what was then taken. Nothing was written only where
--- nothing was kept and nothing more was known.
+-- nothing was kept and the taker has looked and missed the next record; that miss is then all that it has changed.
 pub record WritesGroup {D : Type 0} (limit count : ℕ) (old new : WriterView D) : Type 0 where
   pub group : List (List ℕ)
   pub gathers : GathersGroup limit old.taker new.taker old.kept new.kept group
   pub counted : count ≡ length group
-  pub none : count ≡ 0 → (old.kept ≡ None) × (new.kept ≡ None)
+  pub none : count ≡ 0 → (old.kept ≡ None) × (new.kept ≡ None) × MissedRecord old.taker new.taker
   pub synced : new.synced ≡ old.synced + count
+  pub lowest : new.lowest ≡ lowest_of_last old.lowest group
   pub segments : new.segments ≡ (if nat_lt 0 count
       then with_newest_grown count (length (joined_records group)) (segments_after_roll old)
       else segments_after_roll old)
@@ -86,6 +91,7 @@ HasMadeNext g old new = IsTrue (is_due old) × (new.segments ≡ segments_after_
 -- ended only behind a group that it has gathered.
 pub record StopsWrite {D : Type 0} (g : Ghosts D) (limit : ℕ) (old new : WriterView D) : Type 0 where
   pub synced : new.synced ≡ old.synced
+  pub lowest : new.lowest ≡ old.lowest
   pub segments : new.segments ≡ old.segments
   pub there : IsThere g new.disk (number_of_newest new.segments)
   pub gathered : (new.ended ≡ None) ⊎ GathersSome limit old new
@@ -94,6 +100,7 @@ pub record StopsWrite {D : Type 0} (g : Ghosts D) (limit : ℕ) (old new : Write
 -- none was due the writer is ended only behind a group that it has gathered.
 pub record IsLeftRefused {D : Type 0} (g : Ghosts D) (limit : ℕ) (old new : WriterView D) : Type 0 where
   pub synced : new.synced ≡ old.synced
+  pub lowest : new.lowest ≡ old.lowest
   pub segments : (new.segments ≡ old.segments) ⊎ HasMadeNext g old new
   pub cut : is_due old ≡ false → old.ended ≡ None → (new.ended ≡ None) ⊎ GathersSome limit old new
 
@@ -193,12 +200,13 @@ LeavesShown g old new = IsTrue (g.tells old.disk) → OfPlacedLog g new (λ log.
     (λ c. ShowsFrom (WasEmpty g new.opened) (LeftNoFile g new.opened) old.synced log (entries c)))
 
 -- What a crash leaves once a group was written. Each image spells the log up to the last durable record, and has the
--- newest file as it is read. Where the log was empty at the opening its files are the log's, and where there was no
--- file then, none is half-made.
+-- newest file as it is read; no removal is pending above the files that are there. Where the log was empty at the
+-- opening its files are the log's, and where there was no file then, none is half-made.
 pub record IsDurable {D : Type 0} (g : Ghosts D) (old new : WriterView D) : Type 0 where
   pub spelled : IsTrue (g.tells old.disk) → OfPlacedLog g new (λ log.
       (c : Image) → g.may_leave new.disk c → Spells (entries c) (log_up_to new.synced log))
   pub newest : IsTrue (g.tells old.disk) → IsSynced g new.disk (number_of_newest new.segments)
+  pub pending : IsTrue (g.tells old.disk) → NoneRemovedAbove g new.disk
   pub whole : IsTrue (g.tells old.disk) → OfPlacedLog g new (λ log. WasEmpty g new.opened
       → (c : Image) → g.may_leave new.disk c
       → HoldsLog (LeftNoFile g new.opened) 0 (entries c) (take new.synced log.records))
@@ -214,10 +222,12 @@ pub record LeavesFound {D : Type 0} (g : Ghosts D) (old new : D) : Type 0 where
       → Within g old new (λ c. HoldsLog (LeftNoFile g old) 1 (entries c) [])
 
 -- What is there once it is open. The half-made files are gone, the next segment is made, and all else is read as
--- before. A crash leaves the newest file as it is read; and where there was no file, none is half-made.
+-- before. A crash leaves the newest file as it is read, and no removal is pending above the files that are there; and
+-- where there was no file, none is half-made.
 pub record IsDurableAtOpening {D : Type 0} (g : Ghosts D) (old new : D) (half : List ℕ) (number first : ℕ)
     : Type 0 where
   pub reads : IsTrue (g.tells old) → OpensNext half number first (g.reads old) (g.reads new)
   pub newest : IsTrue (g.tells old) → IsSynced g new number
+  pub pending : IsTrue (g.tells old) → NoneRemovedAbove g new
   pub whole : IsTrue (g.tells old) → IsWellOpened g old → WasEmpty g old
       → (c : Image) → g.may_leave new c → HoldsLog (LeftNoFile g old) 0 (entries c) []

@@ -1,5 +1,6 @@
 // Why a call of the writer was refused.
-ghost use Rattle.std.specs.Prelude.{◌≡◌};
+ghost use Rattle.std.specs.Prelude.{◌≡◌, Some};
+ghost use Rattle.frs_writer.specs.Refusals.{write_fault_text, not_yet_text};
 
 use frs_disk::Fault;
 use frs_types::NoMemory;
@@ -27,6 +28,8 @@ pub enum WriteFault {
 }
 
 impl fmt::Display for WriteFault {
+    ghost output = { λ fault. Some (write_fault_text fault) };
+
     fn fmt<W: fmt::Write>(&self, f: &mut fmt::Formatter<W>) -> fmt::Result {
         match self {
             WriteFault::Disk => write!(f, "the disk has failed"),
@@ -87,6 +90,8 @@ pub struct NotYet {
 }
 
 impl fmt::Display for NotYet {
+    ghost output = { λ refused. Some (not_yet_text refused) };
+
     fn fmt<W: fmt::Write>(&self, f: &mut fmt::Formatter<W>) -> fmt::Result {
         write!(f, "the log is durable up to {}", self.synced)
     }

@@ -29,8 +29,9 @@ fn take_one(taker: &mut Taker, kept: &mut Option<Framed>, chunk: &mut Chunk) -> 
     }
 }
 
-/// Takes records into the chunk, in place of those that it has: first the one that is kept, and then those that the ring
-/// gives, until there are as many as the limit says, or the next one doesn't fit and is kept, or no more are known.
+/// Takes records into the chunk, in place of those that it has: first the one that is kept, and then those that the
+/// ring gives, until there are as many as the limit says, or the next one doesn't fit and is kept, or no more are
+/// known.
 pub(crate) fn gather(taker: &mut Taker, kept: &mut Option<Framed>, chunk: &mut Chunk, limit: u32)
     requires { (1 ≤ limit) × (limit ≤ MOST_RECORDS) }
     ensures { (group : List (List ℕ))

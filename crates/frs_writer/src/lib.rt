@@ -5,11 +5,13 @@
 mod chunk;
 mod fault;
 mod group;
+mod lowest;
 mod setup;
 mod tail;
 mod writer;
 
 pub use fault::{NotYet, Refused, WriteFault};
+pub use lowest::lowest_is_named;
 pub use writer::Writer;
 
 #[cfg(test)]

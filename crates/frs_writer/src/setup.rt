@@ -23,6 +23,10 @@ pub(crate) struct Buffers {
     pub(crate) segments: Vec<Segment>,
     /// For each client an LSN, 0 at first.
     pub(crate) noted: Vec<u64>,
+    /// For each client none.
+    pub(crate) pins: Vec<Option<u64>>,
+    /// The older files that were found.
+    pub(crate) older: Vec<u64>,
 }
 
 impl Buffers {
@@ -35,7 +39,9 @@ impl Buffers {
     ) -> Result<Buffers, NoMemory>
         ensures { IfOk result (λ buffers. (buffers.segments.items
             ≡ found.now.segments ++ places_of_segment (new_segment number found.now.next) ∷ [])
-            × (buffers.noted.items ≡ replicate clients 0)) }
+            × (buffers.noted.items ≡ replicate clients 0)
+            × (buffers.pins.items ≡ replicate clients None)
+            × (buffers.older.items ≡ found.now.older)) }
     {
         let mut segments = copies(alloc, found.segments.items())?;
         segments.push(Segment {
@@ -47,10 +53,16 @@ impl Buffers {
         })?;
         let mut noted = Vec::new(alloc);
         noted.resize(clients as usize, 0)?;
+        let mut pins = Vec::new(alloc);
+        pins.resize(clients as usize, None)?;
+        let mut older = Vec::new(alloc);
+        older.extend_from_slice(found.older.items())?;
         Ok(Buffers {
             chunk: Chunk::new(alloc)?,
             segments,
             noted,
+            pins,
+            older,
         })
     }
 }

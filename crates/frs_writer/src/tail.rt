@@ -4,7 +4,7 @@ ghost use Rattle.std.specs.FinMap.{get};
 ghost use Rattle.frs_disk.specs.Disk.{bytes_at, HasCause};
 ghost use Rattle.frs_disk.specs.Frames.{IsSynced, Within, ChangesOneFile};
 ghost use Rattle.frs_writer.specs.Gates.{IsAtGate, IsShut};
-ghost use Rattle.frs_writer.specs.Groups.{GathersGroup, HasGroup, PutsGroup};
+ghost use Rattle.frs_writer.specs.Groups.{lowest_of_last, GathersGroup, HasGroup, PutsGroup};
 ghost use Rattle.frs_writer.specs.Chunk.{IsOpenChunk};
 ghost use Rattle.frs_writer.specs.Places.{HasLength};
 
@@ -84,6 +84,7 @@ fn put_chunk<D: Disk>(
     ensures put { (group : List (List ℕ)) → HasGroup chunk.old group
         → PutsGroup D.Disk disk.old disk.new
         (record segment.old { chunks = places.items }) segment.new group result }
+    ensures chunk { (chunk.new.count ≡ chunk.old.count) × (chunk.new.lowest ≡ chunk.old.lowest) }
     ensures cause { HasCause (D.faults disk.old) (D.faults disk.new) result }
 {
     let mut places = places;
@@ -131,7 +132,8 @@ pub(crate) fn put_group<D: Disk>(
         × (length group ≡ 0 → (result ≡ Ok 0) × (disk.new ≡ disk.old)
         × (segment.new ≡ record segment.old { chunks = places.items }))
         × (1 ≤ length group → PutsGroup D.Disk disk.old disk.new
-        (record segment.old { chunks = places.items }) segment.new group result) }
+        (record segment.old { chunks = places.items }) segment.new group result)
+        × (chunk.new.count ≡ length group) × (chunk.new.lowest ≡ lowest_of_last 0 group) }
     ensures cause { HasCause (D.faults disk.old) (D.faults disk.new) result }
 {
     gather(taker, kept, chunk, limit);

@@ -6,13 +6,16 @@ ghost use Rattle.frs_disk.specs.Plans.{removed_on, files_of};
 ghost use Rattle.frs_segment.specs.Stores.{IsFound};
 
 use super::*;
-use frs_disk::{Call, FaultPlan, Made, MemDisk};
+use frs_disk::{Call, Disk, FaultPlan, Made, MemDisk};
 use frs_frame::{Framed, encode_payload};
 use frs_segment::{ChunkPlace, Found, ScanFault, read_chunk, scan};
 use frs_slots::{Drawer, Taker, ring};
 use frs_types::{Action, Key, MapId, NoMemory, Sequence, Value, WordFault};
 use std::alloc::Global;
+use std::sync::{Mutex, Wait};
 use std::test::Fail;
+use std::thread;
+use std::thread::Threads;
 
 // What was asked of the disk: the file, and of a write the offset and how many bytes.
 #[derive(Clone, Copy, Debug, PartialEq, Eq)]
@@ -346,5 +349,71 @@ fn half_made_files_are_removed(rt: HostRuntime) -> Result<(), Fail> {
     );
     let disk = writer.into_disk();
     assert!(rt; are(disk.record(), &BESIDE_HALF));
+    Ok(())
+}
+
+// Compiles only where a value may move to another thread.
+fn moves<T: Send>() {}
+
+// Compiles only where threads may share a value.
+fn shares<T: Sync>() {}
+
+// The writer of any disk that may move.
+fn any_writer_moves<D: Disk + Send>() {
+    moves::<Writer<D>>();
+    shares::<Mutex<Writer<D>>>();
+}
+
+#[test]
+fn a_writer_may_go_to_another_thread() {
+    moves::<Writer<MemDisk>>();
+    shares::<Mutex<Writer<MemDisk>>>();
+    any_writer_moves::<MemDisk>();
+}
+
+// Writes five groups of at most ten records. Other threads use the writer too.
+fn write_shared(
+    rt: &impl Wait,
+    alloc: Global,
+    shared: &Mutex<Writer<MemDisk>>,
+) -> Result<(), WriteFault> {
+    for _ in 0..5 {
+        shared.lock(rt).write_group(alloc, 10)?;
+    }
+    Ok(())
+}
+
+// Writes ten groups from two threads that share the writer, and gives it back.
+fn write_from_two_threads<R: Threads + Wait + Sync>(
+    rt: &R,
+    alloc: Global,
+    writer: Writer<MemDisk>,
+) -> Result<Writer<MemDisk>, WriteFault> {
+    let shared = Mutex::new(writer);
+    let lock = &shared;
+    let (one, other) = thread::join(
+        rt,
+        move || write_shared(rt, alloc, lock),
+        move || write_shared(rt, alloc, lock),
+    );
+    one?;
+    other?;
+    Ok(shared.into_inner())
+}
+
+#[test]
+fn threads_share_a_writer_under_a_lock(rt: HostRuntime) -> Result<(), Fail> {
+    let alloc = rt.alloc();
+    let (mut drawer, taker) = ring(alloc, 128, 1)?;
+    for _ in 0..100 {
+        assert!(rt; draw(&mut drawer, mark(alloc)?));
+    }
+    let writer = opened(alloc, Vec::new(alloc), taker)?;
+    let writer = write_from_two_threads(&rt, alloc, writer)?;
+    assert_eq!(rt; writer.synced(), 100);
+    let [segment] = writer.segments() else {
+        panic!(rt; "there is one segment")
+    };
+    assert_eq!(rt; segment.chunks.items().len(), 10);
     Ok(())
 }

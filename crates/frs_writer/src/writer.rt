@@ -22,30 +22,32 @@ use frs_frame::Framed;
 use frs_segment::{
     ChunkPlace, FILE_LIMIT, Found, HEADER_LENGTH, MOST_RECORDS, Segment, one_log, open_segment,
 };
-use frs_slots::{DrawEnd, Filled, Taker};
+use frs_slots::{DrawEnd, Filled, GhostCopy, Taker};
 use frs_types::{CLIENT_LIMIT, NUMBER_LIMIT, NoMemory, Sequence};
 use std::alloc::Global;
 use std::marker::Model;
-use std::snapshot::Snapshot;
 
 // For so many chunks there is room in the list of a new segment at first.
 const FIRST_PLACES: usize = 16;
 
 /// The writer of a log: it has the taking end of the ring and the disk.
 ///
-/// Contracts see it as the disk at the opening and now, the taker, a record that was taken and waits for the next chunk,
-/// the segments, the LSN that is noted for each client, the last durable LSN, and what has cut a write short, if
-/// anything has.
+/// Contracts see it as the disk at the opening and now, the taker, a record that was taken and waits for the next
+/// chunk, the segments and the files below them, the LSN that is noted for each client and its pin, the last durable
+/// LSN and the lowest that the last durable record names, and what has cut a write short, if anything has.
 #[derive(Drop)]
 pub struct Writer<D: Disk> {
-    opened: Snapshot<D>,
+    opened: GhostCopy<D>,
     disk: D,
     taker: Taker,
     kept: Option<Framed>,
     chunk: Chunk,
     segments: Vec<Segment>,
     noted: Vec<u64>,
+    pins: Vec<Option<u64>>,
+    older: Vec<u64>,
     synced: u64,
+    lowest: u64,
     count_at_opening: u64,
     ended: Option<Fault>,
 }
@@ -63,12 +65,13 @@ impl<D: Disk> Model for Writer<D> {
 }
 
 impl<D: Disk> Writer<D> {
-    /// Opens a writer on the files that were found: removes the half-made ones, and makes the segment after the greatest
-    /// number. The taker has taken nothing yet and comes with the next LSN. There are 1 to `CLIENT_LIMIT` clients.
+    /// Opens a writer on the files that were found: removes the half-made ones, and makes the segment after the
+    /// greatest number. The taker has taken nothing yet and comes with the next LSN. There are 1 to `CLIENT_LIMIT`
+    /// clients.
     ///
     /// It answers `NumberLimit` exactly where the new segment would have the number 2^62, before anything is changed.
-    /// Where it is refused the disk comes back, and files may have been removed or made. Where the log was empty no open
-    /// file that a crash may leave has a record; where there was no file a crash leaves at most one.
+    /// Where it is refused the disk comes back, and files may have been removed or made. Where the log was empty no
+    /// open file that a crash may leave has a record; where there was no file a crash leaves at most one.
     pub fn new(
         alloc: Global,
         disk: D,
@@ -84,7 +87,9 @@ impl<D: Disk> Writer<D> {
         requires taker { (taker.taken ≡ []) × (taker.first ≡ found.now.next) }
 
         ensures writer { IfOk result (λ w. (w.opened ≡ disk) × (w.taker ≡ taker) × (w.kept ≡ None)
-            × (w.noted ≡ replicate clients 0) × (w.synced + 1 ≡ found.now.next) × (w.ended ≡ None)
+            × (w.noted ≡ replicate clients 0) × (w.pins ≡ replicate clients None)
+            × (w.synced + 1 ≡ found.now.next) × (w.lowest ≡ found.now.named)
+            × (w.older ≡ found.now.older) × (w.ended ≡ None)
             × (w.segments ≡ found.now.segments
             ++ places_of_segment (new_segment (found.now.greatest + 1) found.now.next) ∷ [])) }
 
@@ -114,7 +119,7 @@ impl<D: Disk> Writer<D> {
             });
         };
         let mut disk = disk;
-        let opened = Snapshot::of(&disk);
+        let opened = GhostCopy::of(&disk);
         let count_at_opening = disk.count();
         // The log that was found is the one that the files spell.
         one_log();
@@ -132,7 +137,10 @@ impl<D: Disk> Writer<D> {
             chunk: buffers.chunk,
             segments: buffers.segments,
             noted: buffers.noted,
+            pins: buffers.pins,
+            older: buffers.older,
             synced: first - 1,
+            lowest: found.named,
             count_at_opening,
             ended: None,
         })
@@ -194,9 +202,12 @@ impl<D: Disk> Writer<D> {
         end.renew(alloc, &mut self.taker)
     }
 
-    /// Gives the disk back, as it is.
+    /// Gives the disk back, as it is. Where nothing was cut short no removal is pending on it above the files that are
+    /// there, so a writer may be opened on it again.
     pub fn into_disk(self) -> D
-        ensures { result ≡ self.disk }
+        ensures disk { result ≡ self.disk }
+        ensures pending { self.ended ≡ None → IsTrue (D.tells result)
+            → NoneRemovedAbove D.Disk result }
     {
         let Writer { disk, .. } = self;
         disk
@@ -227,8 +238,8 @@ impl<D: Disk> Writer<D> {
         self.segments.as_slice()
     }
 
-    /// Notes an LSN as durable for a client. It isn't below the one that was noted before. `NotYet` comes exactly where it
-    /// isn't durable, and changes nothing. Takes no memory.
+    /// Notes an LSN as durable for a client. It isn't below the one that was noted before. `NotYet` comes exactly
+    /// where it isn't durable, and changes nothing. Takes no memory.
     pub fn acknowledge(&mut self, client: u32, lsn: u64) -> Result<(), NotYet>
         requires client { (1 ≤ client) × (client ≤ length self.old.noted) }
         requires rising { slice_index self.old.noted (client - 1) ≤ lsn }
@@ -247,14 +258,15 @@ impl<D: Disk> Writer<D> {
         Ok(())
     }
 
-    /// Writes the next records as one chunk, and answers how many they are: all that are known, up to the limit, which is
-    /// 1 to 256, and up to 1 MiB. A record that doesn't fit is kept, and is the first of the next chunk. It answers 0 only
-    /// where none was kept and no more is known. Where the newest segment has reached 1 MiB it goes on to a new one first.
+    /// Writes the next records as one chunk, and answers how many they are: all that are known, up to the limit,
+    /// which is 1 to 256, and up to 1 MiB. A record that doesn't fit is kept, and is the first of the next chunk.
+    /// Fewer than the limit that all fit come only where the ring was asked for one more in this call and hadn't it,
+    /// and so does 0. Where the newest segment has reached 1 MiB it goes on to a new one first.
     ///
-    /// Once it answers Ok every record that it counts is durable. Where it is refused with `Disk`, or with `Memory` while
-    /// it wrote, records may be durable or not, and the writer writes no more. Where the log was empty at the opening, all
-    /// open files that a crash may leave are its segments, from LSN 1 on; where there was no file, their numbers are those
-    /// from 1 on, at most the newest is half-made, and each but the newest has a record.
+    /// Once it answers Ok every record that it counts is durable. Where it is refused with `Disk`, or with `Memory`
+    /// while it wrote, records may be durable or not, and the writer writes no more. Where the log was empty at the
+    /// opening, all open files that a crash may leave are its segments, from LSN 1 on; where there was no file, their
+    /// numbers are those from 1 on, at most the newest is half-made, and each but the newest has a record.
     pub fn write_group(&mut self, alloc: Global, limit: u32) -> Result<u32, WriteFault>
         requires { (1 ≤ limit) × (limit ≤ MOST_RECORDS) }
 
@@ -301,8 +313,8 @@ impl<D: Disk> Writer<D> {
         newest.length >= FILE_LIMIT && self.synced + 1 < NUMBER_LIMIT
     }
 
-    // Goes on to a new segment where this is due, and gives room for the places of its chunks. All memory for it is taken
-    // before anything is changed.
+    // Goes on to a new segment where this is due, and gives room for the places of its chunks. All memory for it is
+    // taken before anything is changed.
     fn roll(&mut self, alloc: Global) -> Result<Option<Vec<ChunkPlace>>, WriteFault>
         requires { self.old.ended ≡ None }
         ensures rolled { OnOk result (IsRolled self.old self.new) }
@@ -348,7 +360,8 @@ impl<D: Disk> Writer<D> {
         Ok(Some(room))
     }
 
-    // Writes a group to the newest segment. Where the segment has no chunk there may be room for the places of its chunks.
+    // Writes a group to the newest segment. Where the segment has no chunk there may be room for the places of its
+    // chunks.
     fn write(
         &mut self,
         alloc: Global,
@@ -381,6 +394,7 @@ impl<D: Disk> Writer<D> {
         match written {
             Ok(count) => {
                 self.synced += u64::from(count);
+                self.lowest = self.chunk.lowest_or(self.lowest);
                 Ok(count)
             }
             Err(fault) => {

@@ -79,3 +79,8 @@ returns-clause-left_alone g c =
           (λ listed. inr listed)
           is);
     }
+
+-- what is answered as done was decided so
+pub returns-clause-again : goal.returns-clause-again
+returns-clause-again g c = λ zero.
+    c.attempt-outcome.ensures.run.again (decided_is _ _ _ _ c.report-status.ensures.answers (λ six. omega (arith, zero, six)) (λ nine. omega (arith, zero, nine)) ∙ zero)

@@ -35,14 +35,15 @@ returns-in-Ok-clause-run g c =
           let first : Within d start mid (ShowsCommits commits) = λ x left. none_shown x commits (c.in-Ok.ensures.images told none x left) in
           let second : Within d mid last (ShowsCommits commits) = λ x left. subst (λ (cs : List Changes). ShowsCommits cs x) same (p.images told_mid none_mid x left) in
           record {
-            crash = λ x left. within_join d start mid last (ShowsCommits commits) c.in-Ok.ensures.frame.0.time p.frame.time first second x (subst (λ e. d.left_since e (d.moment start) x) c.into_disk.ensures left);
-            durable = λ x left. subst (λ (cs : List Changes). ShowsAcked cs new.acks.items x) same (p.acked told_mid none_mid x (subst (λ e. d.may_leave e x) c.into_disk.ensures left));
+            crash = λ x left. within_join d start mid last (ShowsCommits commits) c.in-Ok.ensures.frame.0.time p.frame.time first second x (subst (λ e. d.left_since e (d.moment start) x) c.into_disk.ensures.disk left);
+            durable = λ x left. subst (λ (cs : List Changes). ShowsAcked cs new.acks.items x) same (p.acked told_mid none_mid x (subst (λ e. d.may_leave e x) c.into_disk.ensures.disk left));
           };
       completes = λ zero. subst (λ (l : List Line). Completes l new.events.items new.acks.items) lines (not_stopped c.play.result (stopped zero) c.play.ensures.complete);
       shows_all = λ zero told none x left.
           let told_mid : IsTrue (d.tells mid) = subst IsTrue (sym c.in-Ok.ensures.frame.0.told) told in
           let none_mid : LeftNoFile d c.in-Ok.journal.writer.opened = subst (λ e. LeftNoFile d e) (sym c.in-Ok.ensures.opened) none in
-          subst (λ (cs : List Changes). ShowsAll cs x) same (not_stopped c.play.result (stopped zero) c.play.ensures.all told_mid none_mid x (subst (λ e. d.may_leave e x) c.into_disk.ensures left));
+          subst (λ (cs : List Changes). ShowsAll cs x) same (not_stopped c.play.result (stopped zero) c.play.ensures.all told_mid none_mid x (subst (λ e. d.may_leave e x) c.into_disk.ensures.disk left));
+      again = λ zero. c.into_disk.ensures.pending (not_stopped c.play.result (stopped zero) c.play.ensures.going);
     } in
     let events : c.into_answers-events.result.0.items ≡ new.events.items = ap (λ v. v.items) c.into_answers-events.ensures.events in
     let acks : c.into_answers-events.result.1.items ≡ new.acks.items = ap (λ v. v.items) c.into_answers-events.ensures.acks in
@@ -64,4 +65,5 @@ returns-in-Err-clause-run g c =
       };
       completes = λ is. absurd (let e = zero is in cc);
       shows_all = λ is. absurd (let e = zero is in cc);
+      again = λ is. absurd (let e = zero is in cc);
     }

@@ -36,7 +36,7 @@ returns-in-Ok-new-clause-written g c =
     let found = c.nothing_found-found.ensures in
     let taker = is.1 ∙ c.in-Ok.ensures.taker in
     let segments : w.segments ≡ places_of_segment (new_segment 1 1) ∷ [] =
-    is.6 ∙ ap (λ s. s ++ places_of_segment (new_segment (c.nothing_found-found.result.greatest + 1) c.nothing_found-found.result.next) ∷ []) found.segments_are
+    is.9 ∙ ap (λ s. s ++ places_of_segment (new_segment (c.nothing_found-found.result.greatest + 1) c.nothing_found-found.result.next) ∷ []) found.segments_are
     ∙ ap (λ n. places_of_segment (new_segment (n + 1) c.nothing_found-found.result.next) ∷ []) found.greatest_is
     ∙ ap (λ n. places_of_segment (new_segment 1 n) ∷ []) found.next_is in
     record {
@@ -45,8 +45,8 @@ returns-in-Ok-new-clause-written g c =
         taken = ap (λ t. t.taken) taker;
         sure = omega arith;
         kept = is.2;
-        synced = omega (arith, is.4, found.next_is);
-        ended = is.5;
+        synced = omega (arith, is.5, found.next_is);
+        ended = is.8;
         number = omega (arith, ap number_of_newest segments);
         noted = (0, is.3, omega arith);
         told = c.in-Ok-new.ensures.frame.0.told ∙ ap d.tells (sym is.0);

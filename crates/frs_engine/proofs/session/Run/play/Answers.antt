@@ -57,3 +57,6 @@ returns-clause-all g c =
     (subst (λ e. LeftNoFile g.D.Disk e) (sym (closing.opened ∙ answered.opened ∙ first.opened)) none) x left
     (omega (arith, marked.1, c.in_ok-answer_all.ensures.done.marks)))
     (on_ok_both _ _ c.mark-2.result c.mark-2.ensures.ready c.mark-2.ensures.drawn)
+
+pub returns-clause-going : goal.returns-clause-going
+returns-clause-going g c = on_ok_weaker c.mark-2.result (λ ready. ready.written.written.ended) c.mark-2.ensures.ready

@@ -2,15 +2,17 @@ use Rattle.std.proofs.Common.{◌≡◌, ℕ, ◌+◌, ◌-◌, false, List, [],
 use Rattle.std.specs.Prelude.{IfSome}
 use Rattle.std.proofs.lemmas.List.{set-get_or}
 use Rattle.frs_segment.specs.declared.layout.Segment.{Segment}
-use Rattle.frs_writer.specs.Groups.{PutsGroup}
+use Rattle.frs_writer.specs.Groups.{lowest_of_last, PutsGroup}
 use Rattle.frs_writer.specs.Inside.{view_of}
 use Rattle.frs_writer.specs.Invariant.{IsKept}
 use Rattle.frs_writer.specs.Places.{chunks_of_newest}
 use Rattle.frs_writer.specs.Writer.{WriterView}
-use Rattle.frs_writer.specs.Writing.{is_due, LeavesLog, LeavesShown, IsDurable, StopsWrite}
+use Rattle.frs_writer.specs.Writing.{is_due, TakesMore, LeavesLog, LeavesShown, IsDurable, StopsWrite}
 use Rattle.frs_writer.proofs.LeavesLog.{leaves_shown, durable_written, unchanged_leaves}
+use Rattle.frs_writer.proofs.GathersGroup.{lowest_named}
 use Rattle.frs_writer.proofs.IsRolled.{at_newest}
 use Rattle.frs_writer.proofs.Places.{taken_out, put_back, newest_chunks}
+use Rattle.frs_writer.proofs.WriteGroup.{gathered_takes}
 use Rattle.frs_writer.proofs.WritesGroup.{IsPut, at_refusal, ok_kept, err_kept, err_stops, unchanged_stops, put_images, put_wrote, short_here, broke, not_broken, not_due}
 use Rattle.frs_writer.proofs.writer.Writer.write.Goals as goal
 
@@ -83,7 +85,7 @@ invariant_of-self-in-Ok g c =
     let at : ℕ = c.len-newest.result - 1 in
     let at_is = ap (λ (n : ℕ). n - 1) (c.len-newest.ensures ∙ c.self.inside.segments.ok.0) in
     let segments : List Segment = set (set w.segments at c.take_places.new.segment) at after in
-    let (group, gathered, none, some) = c.put_group-written.ensures.put in
+    let (group, gathered, none, some, chunk_count, chunk_lowest) = c.put_group-written.ensures.put in
     let before = taken_out w.segments counted.older counted.newest c.index_mut.result.now c.take_places.new.segment c.index_mut-2.result.now c.in_ok-places.places.items at
     counted.segments at_is c.index_mut.ensures.value c.in_ok-places.ensures.taken.0 c.in_ok-places.ensures.rest c.index_mut-2.ensures.value in
     let put : IsPut d w.disk mid counted.newest after group c.put_group-written.result = record {
@@ -93,9 +95,9 @@ invariant_of-self-in-Ok g c =
     let back : segments ≡ counted.older ++ after ∷ [] = put_back w.segments counted.older counted.newest c.take_places.new.segment after at counted.segments at_is in
     let short = short_here d w kept fine c.args.limit t still group gathered here in
     record {
-      kept_is = subst (λ (n : ℕ). IsKept d (record { opened = w.opened; disk = mid; taker = t; kept = still; segments = segments; noted = w.noted; synced = w.synced + n; ended = w.ended })) (sym c.from.ensures)
+      kept_is = subst (λ (n : ℕ). IsKept d (record { opened = w.opened; disk = mid; taker = t; kept = still; segments = segments; noted = w.noted; pins = w.pins; older = w.older; synced = w.synced + n; lowest = c.lowest_or-self-inside.result; ended = w.ended })) (sym c.from.ensures)
           (ok_kept d g.met.D.Disk.as_read g.met.D.Disk.counts_now g.met.D.Disk.only_now w kept fine
-          c.args.limit c.requires.limit.1 t still group gathered mid after c.put_group-written.result put short
+          c.args.limit c.requires.limit.1 t still group gathered mid after c.put_group-written.result put short c.lowest_or-self-inside.result (c.lowest_or-self-inside.ensures ∙ lowest_named w.lowest group c.put_group-written.new.chunk.count c.put_group-written.new.chunk.lowest chunk_count chunk_lowest)
           c.in-Ok.count c.in-Ok.is segments back);
       count = c.self.invariant.count;
       later = omega (arith, c.self.invariant.later, c.in-Ok.ensures.cause);
@@ -117,7 +119,7 @@ returns-in-Ok-clause-wrote g c =
     let at : ℕ = c.len-newest.result - 1 in
     let at_is = ap (λ (n : ℕ). n - 1) (c.len-newest.ensures ∙ c.self.inside.segments.ok.0) in
     let segments : List Segment = set (set w.segments at c.take_places.new.segment) at after in
-    let (group, gathered, none, some) = c.put_group-written.ensures.put in
+    let (group, gathered, none, some, chunk_count, chunk_lowest) = c.put_group-written.ensures.put in
     let before = taken_out w.segments counted.older counted.newest c.index_mut.result.now c.take_places.new.segment c.index_mut-2.result.now c.in_ok-places.places.items at
     counted.segments at_is c.index_mut.ensures.value c.in_ok-places.ensures.taken.0 c.in_ok-places.ensures.rest c.index_mut-2.ensures.value in
     let put : IsPut d w.disk mid counted.newest after group c.put_group-written.result = record {
@@ -127,8 +129,8 @@ returns-in-Ok-clause-wrote g c =
     let back : segments ≡ counted.older ++ after ∷ [] = put_back w.segments counted.older counted.newest c.take_places.new.segment after at counted.segments at_is in
     let short = short_here d w kept fine c.args.limit t still group gathered here in
     put_wrote d g.met.D.Disk.as_read g.met.D.Disk.counts_now g.met.D.Disk.only_now w kept fine
-    c.args.limit c.requires.limit.1 t still group gathered mid after c.put_group-written.result put short
-    c.in-Ok.count c.in-Ok.is c.args.self.now (sym (ap (λ (v : WriterView g.row.D.Denot). v.taker) c.self.view_is)) (sym (ap (λ (v : WriterView g.row.D.Denot). v.kept) c.self.view_is)) (sym (ap (λ (v : WriterView g.row.D.Denot). v.synced) c.self.view_is))
+    c.args.limit c.requires.limit.1 t still group gathered mid after c.put_group-written.result put short c.lowest_or-self-inside.result (c.lowest_or-self-inside.ensures ∙ lowest_named w.lowest group c.put_group-written.new.chunk.count c.put_group-written.new.chunk.lowest chunk_count chunk_lowest)
+    c.in-Ok.count c.in-Ok.is c.requires.limit.0 c.args.self.now (sym (ap (λ (v : WriterView g.row.D.Denot). v.taker) c.self.view_is)) (sym (ap (λ (v : WriterView g.row.D.Denot). v.kept) c.self.view_is)) (sym (ap (λ (v : WriterView g.row.D.Denot). v.synced) c.self.view_is)) (sym (ap (λ (v : WriterView g.row.D.Denot). v.lowest) c.self.view_is))
     (not_due c.args.self.now c.requires.fine.1 ∙ sym (ap (λ (v : WriterView g.row.D.Denot). v.segments) c.self.view_is)) segments back w.ended (w.synced + c.from.result) (ap (λ (n : ℕ). w.synced + n) c.from.ensures)
 
 pub returns-in-Ok-clause-crash : goal.returns-in-Ok-clause-crash
@@ -146,7 +148,7 @@ returns-in-Ok-clause-crash g c =
     let at : ℕ = c.len-newest.result - 1 in
     let at_is = ap (λ (n : ℕ). n - 1) (c.len-newest.ensures ∙ c.self.inside.segments.ok.0) in
     let segments : List Segment = set (set w.segments at c.take_places.new.segment) at after in
-    let (group, gathered, none, some) = c.put_group-written.ensures.put in
+    let (group, gathered, none, some, chunk_count, chunk_lowest) = c.put_group-written.ensures.put in
     let before = taken_out w.segments counted.older counted.newest c.index_mut.result.now c.take_places.new.segment c.index_mut-2.result.now c.in_ok-places.places.items at
     counted.segments at_is c.index_mut.ensures.value c.in_ok-places.ensures.taken.0 c.in_ok-places.ensures.rest c.index_mut-2.ensures.value in
     let put : IsPut d w.disk mid counted.newest after group c.put_group-written.result = record {
@@ -155,10 +157,10 @@ returns-in-Ok-clause-crash g c =
     } in
     let back : segments ≡ counted.older ++ after ∷ [] = put_back w.segments counted.older counted.newest c.take_places.new.segment after at counted.segments at_is in
     let short = short_here d w kept fine c.args.limit t still group gathered here in
-    let last : WriterView g.row.D.Denot = record { opened = w.opened; disk = mid; taker = t; kept = still; segments = segments; noted = w.noted; synced = w.synced + c.from.result; ended = w.ended } in
+    let last : WriterView g.row.D.Denot = record { opened = w.opened; disk = mid; taker = t; kept = still; segments = segments; noted = w.noted; pins = w.pins; older = w.older; synced = w.synced + c.from.result; lowest = c.lowest_or-self-inside.result; ended = w.ended } in
     let shown : LeavesShown d w last = λ told well log is_log placed.
     put_images d g.met.D.Disk.as_read g.met.D.Disk.counts_now g.met.D.Disk.only_now w kept fine
-    c.args.limit c.requires.limit.1 t still group gathered mid after c.put_group-written.result put short last refl refl told well log is_log placed in
+    c.args.limit c.requires.limit.1 t still group gathered mid after c.put_group-written.result put short (lowest_of_last w.lowest group) refl last refl refl told well log is_log placed in
     let now = (invariant_of-self-in-Ok g c).kept_is in
     subst (λ (v : WriterView g.row.D.Denot). LeavesLog d v last) c.self.view_is
     (leaves_shown d w last now (λ told. subst IsTrue (kept.told ∙ sym now.told) told) (omega (arith, kept.counted.first, gathered.ring.1)) shown)
@@ -178,7 +180,7 @@ returns-in-Ok-clause-durable g c =
     let at : ℕ = c.len-newest.result - 1 in
     let at_is = ap (λ (n : ℕ). n - 1) (c.len-newest.ensures ∙ c.self.inside.segments.ok.0) in
     let segments : List Segment = set (set w.segments at c.take_places.new.segment) at after in
-    let (group, gathered, none, some) = c.put_group-written.ensures.put in
+    let (group, gathered, none, some, chunk_count, chunk_lowest) = c.put_group-written.ensures.put in
     let before = taken_out w.segments counted.older counted.newest c.index_mut.result.now c.take_places.new.segment c.index_mut-2.result.now c.in_ok-places.places.items at
     counted.segments at_is c.index_mut.ensures.value c.in_ok-places.ensures.taken.0 c.in_ok-places.ensures.rest c.index_mut-2.ensures.value in
     let put : IsPut d w.disk mid counted.newest after group c.put_group-written.result = record {
@@ -187,7 +189,7 @@ returns-in-Ok-clause-durable g c =
     } in
     let back : segments ≡ counted.older ++ after ∷ [] = put_back w.segments counted.older counted.newest c.take_places.new.segment after at counted.segments at_is in
     let short = short_here d w kept fine c.args.limit t still group gathered here in
-    let last : WriterView g.row.D.Denot = record { opened = w.opened; disk = mid; taker = t; kept = still; segments = segments; noted = w.noted; synced = w.synced + c.from.result; ended = w.ended } in
+    let last : WriterView g.row.D.Denot = record { opened = w.opened; disk = mid; taker = t; kept = still; segments = segments; noted = w.noted; pins = w.pins; older = w.older; synced = w.synced + c.from.result; lowest = c.lowest_or-self-inside.result; ended = w.ended } in
     let now = (invariant_of-self-in-Ok g c).kept_is in
     subst (λ (v : WriterView g.row.D.Denot). IsDurable d v last) c.self.view_is (durable_written d w last now (λ told. subst IsTrue (kept.told ∙ sym now.told) told) fine)
 
@@ -208,7 +210,7 @@ invariant_of-self-in-Err g c =
     let at : ℕ = c.len-newest.result - 1 in
     let at_is = ap (λ (n : ℕ). n - 1) (c.len-newest.ensures ∙ c.self.inside.segments.ok.0) in
     let segments : List Segment = set (set w.segments at c.take_places.new.segment) at after in
-    let (group, gathered, none, some) = c.put_group-written.ensures.put in
+    let (group, gathered, none, some, chunk_count, chunk_lowest) = c.put_group-written.ensures.put in
     let before = taken_out w.segments counted.older counted.newest c.index_mut.result.now c.take_places.new.segment c.index_mut-2.result.now c.in_ok-places.places.items at
     counted.segments at_is c.index_mut.ensures.value c.in_ok-places.ensures.taken.0 c.in_ok-places.ensures.rest c.index_mut-2.ensures.value in
     let put : IsPut d w.disk mid counted.newest after group c.put_group-written.result = record {
@@ -220,7 +222,7 @@ invariant_of-self-in-Err g c =
     let broken = broke ℕ (d.faults c.self.inside.opened.value) (d.faults w.disk) (d.faults mid) c.in-Err.fault c.self.invariant.later c.in-Err.ensures.cause in
     record {
       kept_is = err_kept d g.met.D.Disk.as_read g.met.D.Disk.counts_now g.met.D.Disk.only_now w kept fine
-          c.args.limit c.requires.limit.1 t still group gathered mid after c.put_group-written.result put short
+          c.args.limit c.requires.limit.1 t still group gathered mid after c.put_group-written.result put short (lowest_of_last w.lowest group) refl
           c.in-Err.fault c.in-Err.is segments back;
       count = c.self.invariant.count;
       later = broken.0;
@@ -242,7 +244,7 @@ returns-in-Err-clause-crash g c =
     let at : ℕ = c.len-newest.result - 1 in
     let at_is = ap (λ (n : ℕ). n - 1) (c.len-newest.ensures ∙ c.self.inside.segments.ok.0) in
     let segments : List Segment = set (set w.segments at c.take_places.new.segment) at after in
-    let (group, gathered, none, some) = c.put_group-written.ensures.put in
+    let (group, gathered, none, some, chunk_count, chunk_lowest) = c.put_group-written.ensures.put in
     let before = taken_out w.segments counted.older counted.newest c.index_mut.result.now c.take_places.new.segment c.index_mut-2.result.now c.in_ok-places.places.items at
     counted.segments at_is c.index_mut.ensures.value c.in_ok-places.ensures.taken.0 c.in_ok-places.ensures.rest c.index_mut-2.ensures.value in
     let put : IsPut d w.disk mid counted.newest after group c.put_group-written.result = record {
@@ -251,10 +253,10 @@ returns-in-Err-clause-crash g c =
     } in
     let back : segments ≡ counted.older ++ after ∷ [] = put_back w.segments counted.older counted.newest c.take_places.new.segment after at counted.segments at_is in
     let short = short_here d w kept fine c.args.limit t still group gathered here in
-    let last : WriterView g.row.D.Denot = record { opened = w.opened; disk = mid; taker = t; kept = still; segments = segments; noted = w.noted; synced = w.synced; ended = Some c.in-Err.fault } in
+    let last : WriterView g.row.D.Denot = record { opened = w.opened; disk = mid; taker = t; kept = still; segments = segments; noted = w.noted; pins = w.pins; older = w.older; synced = w.synced; lowest = w.lowest; ended = Some c.in-Err.fault } in
     let shown : LeavesShown d w last = λ told well log is_log placed.
     put_images d g.met.D.Disk.as_read g.met.D.Disk.counts_now g.met.D.Disk.only_now w kept fine
-    c.args.limit c.requires.limit.1 t still group gathered mid after c.put_group-written.result put short last refl refl told well log is_log placed in
+    c.args.limit c.requires.limit.1 t still group gathered mid after c.put_group-written.result put short (lowest_of_last w.lowest group) refl last refl refl told well log is_log placed in
     let now = (invariant_of-self-in-Err g c).kept_is in
     subst (λ (v : WriterView g.row.D.Denot). LeavesLog d v last) c.self.view_is
     (leaves_shown d w last now (λ told. subst IsTrue (kept.told ∙ sym now.told) told) (omega (arith, kept.counted.first, gathered.ring.1)) shown)
@@ -274,7 +276,7 @@ returns-in-Err-clause-refused g c =
     let at : ℕ = c.len-newest.result - 1 in
     let at_is = ap (λ (n : ℕ). n - 1) (c.len-newest.ensures ∙ c.self.inside.segments.ok.0) in
     let segments : List Segment = set (set w.segments at c.take_places.new.segment) at after in
-    let (group, gathered, none, some) = c.put_group-written.ensures.put in
+    let (group, gathered, none, some, chunk_count, chunk_lowest) = c.put_group-written.ensures.put in
     let before = taken_out w.segments counted.older counted.newest c.index_mut.result.now c.take_places.new.segment c.index_mut-2.result.now c.in_ok-places.places.items at
     counted.segments at_is c.index_mut.ensures.value c.in_ok-places.ensures.taken.0 c.in_ok-places.ensures.rest c.index_mut-2.ensures.value in
     let put : IsPut d w.disk mid counted.newest after group c.put_group-written.result = record {
@@ -283,8 +285,28 @@ returns-in-Err-clause-refused g c =
     } in
     let back : segments ≡ counted.older ++ after ∷ [] = put_back w.segments counted.older counted.newest c.take_places.new.segment after at counted.segments at_is in
     let short = short_here d w kept fine c.args.limit t still group gathered here in
-    let last : WriterView g.row.D.Denot = record { opened = w.opened; disk = mid; taker = t; kept = still; segments = segments; noted = w.noted; synced = w.synced; ended = Some c.in-Err.fault } in
+    let last : WriterView g.row.D.Denot = record { opened = w.opened; disk = mid; taker = t; kept = still; segments = segments; noted = w.noted; pins = w.pins; older = w.older; synced = w.synced; lowest = w.lowest; ended = Some c.in-Err.fault } in
     subst (λ (v : WriterView g.row.D.Denot). StopsWrite d c.args.limit v last) c.self.view_is
     (err_stops d g.met.D.Disk.as_read g.met.D.Disk.counts_now g.met.D.Disk.only_now w kept fine
-    c.args.limit c.requires.limit.1 t still group gathered mid after c.put_group-written.result put short
+    c.args.limit c.requires.limit.1 t still group gathered mid after c.put_group-written.result put short (lowest_of_last w.lowest group) refl
     c.in-Err.fault c.in-Err.is segments back)
+
+pub returns-in-Ok-clause-same : goal.returns-in-Ok-clause-same
+returns-in-Ok-clause-same g c =
+    let w : WriterView g.row.D.Denot = view_of c.self.inside in
+    let t = c.put_group-written.new.taker in
+    let still = c.put_group-written.new.kept in
+    let segments : List Segment = set (set w.segments (c.len-newest.result - 1) c.take_places.new.segment) (c.len-newest.result - 1) c.put_group-written.new.segment in
+    let (group, gathered, none, some, chunk_count, chunk_lowest) = c.put_group-written.ensures.put in
+    let last : WriterView g.row.D.Denot = record { opened = w.opened; disk = c.put_group-written.new.disk; taker = t; kept = still; segments = segments; noted = w.noted; pins = w.pins; older = w.older; synced = w.synced + c.from.result; lowest = c.lowest_or-self-inside.result; ended = w.ended } in
+    subst (λ (v : WriterView g.row.D.Denot). TakesMore v last) c.self.view_is (gathered_takes c.args.limit w last w.kept still group gathered refl refl refl refl)
+
+pub returns-in-Err-clause-same : goal.returns-in-Err-clause-same
+returns-in-Err-clause-same g c =
+    let w : WriterView g.row.D.Denot = view_of c.self.inside in
+    let t = c.put_group-written.new.taker in
+    let still = c.put_group-written.new.kept in
+    let segments : List Segment = set (set w.segments (c.len-newest.result - 1) c.take_places.new.segment) (c.len-newest.result - 1) c.put_group-written.new.segment in
+    let (group, gathered, none, some, chunk_count, chunk_lowest) = c.put_group-written.ensures.put in
+    let last : WriterView g.row.D.Denot = record { opened = w.opened; disk = c.put_group-written.new.disk; taker = t; kept = still; segments = segments; noted = w.noted; pins = w.pins; older = w.older; synced = w.synced; lowest = w.lowest; ended = Some c.in-Err.fault } in
+    subst (λ (v : WriterView g.row.D.Denot). TakesMore v last) c.self.view_is (gathered_takes c.args.limit w last w.kept still group gathered refl refl refl refl)

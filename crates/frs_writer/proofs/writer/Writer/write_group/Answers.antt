@@ -22,14 +22,14 @@ returns-clause-refused g c =
 
 pub returns-in_err-room-clause-same : goal.returns-in_err-room-clause-same
 returns-in_err-room-clause-same g c =
-    takes_none c.args.self.now c.roll.new.self (ap (λ w. w.opened) c.in_err-room.ensures.refused.0) (ap (λ w. w.noted) c.in_err-room.ensures.refused.0) (ap (λ w. w.taker) c.in_err-room.ensures.refused.0)
+    takes_none c.args.self.now c.roll.new.self (ap (λ w. w.opened) c.in_err-room.ensures.refused.0) (ap (λ w. w.noted) c.in_err-room.ensures.refused.0) (ap (λ w. w.pins) c.in_err-room.ensures.refused.0) (ap (λ w. w.older) c.in_err-room.ensures.refused.0) (ap (λ w. w.taker) c.in_err-room.ensures.refused.0)
 
 pub returns-in_err-room-clause-refused : goal.returns-in_err-room-clause-refused
 returns-in_err-room-clause-refused g c =
     at_refusal c.from_residual-in_err-room.result (roll_refused g.D.Disk c.args.limit c.args.self.now c.roll.new.self c.in_err-room.ensures.refused.0 c.in_err-room.ensures.refused.1)
 
 pub returns-in_err-check-clause-same : goal.returns-in_err-check-clause-same
-returns-in_err-check-clause-same g c = takes_none c.args.self.now c.args.self.now refl refl refl
+returns-in_err-check-clause-same g c = takes_none c.args.self.now c.args.self.now refl refl refl refl refl
 
 pub returns-in_err-check-clause-refused : goal.returns-in_err-check-clause-refused
 returns-in_err-check-clause-refused g c =
