@@ -1,0 +1,14 @@
+pub mod BookGoesOn
+pub mod ClientChanges
+pub mod CommandSteps
+pub mod DrawnExamples
+pub mod EachStored
+pub mod EventSteps
+pub mod HistoryRuns
+pub mod LawfulDraws
+pub mod LogEffects
+pub mod LowestOfBook
+pub mod NewestChange
+pub mod OneMoreEvent
+pub mod Positions
+pub mod Unhindered

@@ -1,0 +1,4 @@
+pub mod Agreement
+pub mod Books
+pub mod Changes
+pub mod Drawn
