@@ -8,8 +8,8 @@ ghost use Rattle.frs_types.specs.Maps.{same_place};
 ghost use Rattle.frs_types.specs.Records.{numbered_records_from};
 ghost use Rattle.frs_types.specs.Survivors.{committed_records, survivors_of, open_begins};
 
-/// Of records whose LSNs follow each other from `first` on, no two survivors have one place, and the survivors' LSNs rise
-/// and are among those of the records. The LSNs of open begins rise too, and are among those of the records.
+/// Of records whose LSNs follow each other from `first` on, no two survivors have one place, and the survivors' LSNs
+/// rise and are among those of the records. The LSNs of open begins rise too, and are among those of the records.
 pub fn survivors_in_order()
     ensures places { (first : ℕ) (rs : List Record)
         → IsDistinct same_place (map (λ (e : Entry). (e.id, e.key))

@@ -1,5 +1,5 @@
-//! Who holds which lock, who waits for whom, and when a wait would close a ring. Contracts see the locks as the clients'
-//! holders, of which each has the locks that a client holds and the one that it waits for.
+//! Who holds which lock, who waits for whom, and when a wait would close a ring. Contracts see the locks as the
+//! clients' holders, of which each has the locks that a client holds and the one that it waits for.
 #![tactic(auto)]
 
 mod client_locks;
