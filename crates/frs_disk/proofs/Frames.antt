@@ -1,10 +1,16 @@
 -- How the frames of single calls join into the frame of a run.
-use Rattle.std.proofs.Common.{◌≡◌, ⊎_elim, ℕ, ◌≤◌, ◌∙◌, IsTrue, refl, sym, subst}
+use Rattle.std.proofs.Common.{◌≡◌, ⊎_elim, ℕ, ◌≤◌, ◌∙◌, IsTrue, refl, sym, subst, arith}
 use Rattle.std.specs.FinMap.{get}
 use Rattle.frs_disk.specs.declared.disk.Disk.{Ghosts}
 use Rattle.frs_disk.specs.Disk.{Image, Elapses, ChangesFile, Follows, Keeps}
-use Rattle.frs_disk.specs.Frames.{OnlyReads, ChangesOneFile, GoesOn}
+use Rattle.frs_disk.specs.Frames.{NoneRemovedAbove, RemovesBelow, OnlyReads, ChangesOneFile, GoesOn}
 use Rattle.frs_disk.proofs.Moments.{passes_none, passes_join, within_join, agrees_start, call_agrees, agrees_join}
+
+-- ---- what is pending
+
+-- a number below that of a file that is there isn't above it
+pub removed_below : {D : Type 0} (g : Ghosts D) (disk : D) → RemovesBelow g disk → NoneRemovedAbove g disk
+removed_below g disk below n pends = let (m, there, lt) = below n pends in (m, there, omega (arith, lt))
 
 -- ---- runs that only read
 

@@ -1,6 +1,6 @@
 -- What a run of calls leaves of a disk beside what it was made for, and what a crash may leave while it goes on. Each
 -- word takes the members of the trait as one argument.
-use Rattle.std.specs.Prelude.{◌≡◌, ◌≤◌, ℕ, max, None, IsTrue, IsSome}
+use Rattle.std.specs.Prelude.{◌≡◌, ◌<◌, ◌≤◌, ℕ, max, None, IsTrue, IsSome}
 use Rattle.std.specs.FinMap.{empty, get}
 use Rattle.frs_disk.specs.declared.disk.Disk.{Ghosts}
 use Rattle.frs_disk.specs.Disk.{Image, SameElsewhere, AgreesElsewhere, Keeps, Passes}
@@ -19,6 +19,10 @@ CanBeMade g disk number = (IsTrue (g.tells disk) → get (g.reads disk) number �
 -- no removal is pending of a number above those of the files that are there
 abbrev pub NoneRemovedAbove : {D : Type 0} → Ghosts D → D → Type 0
 NoneRemovedAbove g disk = (n : ℕ) → g.removing disk n → (m : ℕ) × IsSome (get (g.reads disk) m) × (n ≤ m)
+
+-- the number of each file whose removal is pending is below that of a file that is there
+abbrev pub RemovesBelow : {D : Type 0} → Ghosts D → D → Type 0
+RemovesBelow g disk = (n : ℕ) → g.removing disk n → (m : ℕ) × IsSome (get (g.reads disk) m) × (n < m)
 
 -- ---- what a crash leaves
 
