@@ -1,5 +1,5 @@
 -- The files of a store say one thing: no two lists of its segments spell a log.
-use Rattle.std.proofs.Common.{◌≡◌, ◌⊎◌, inl, inr, ℕ, List, [], ◌∷◌, ◌++◌, refl, sym, ap, subst, ◌∙◌, arith, IsTrue}
+use Rattle.std.proofs.Common.{◌≡◌, ◌⊎◌, inl, inr, ℕ, ◌≤◌, List, [], ◌∷◌, ◌++◌, refl, sym, ap, subst, ◌∙◌, arith, IsTrue}
 use Rattle.std.specs.List.{AllZip, list_all}
 use Rattle.std.proofs.Math.Dec.{ltb, leb}
 use Rattle.std.proofs.lemmas.Bool.{ltb-true, leb-true, and_parts}
@@ -12,7 +12,7 @@ use Rattle.frs_segment.proofs.SpellsBy.{all_records-append, enough_reaches}
 use Rattle.frs_segment.proofs.OneSegment.{one_segment}
 
 -- files are one list of segments
-same_segments : (files : List File) (a b : List WholeSegment) → AllZip IsSegment files a → AllZip IsSegment files b → a ≡ b
+pub same_segments : (files : List File) (a b : List WholeSegment) → AllZip IsSegment files a → AllZip IsSegment files b → a ≡ b
 same_segments [] [] [] za zb = refl
 same_segments [] [] (t ∷ b) za zb = absurd zb
 same_segments [] (s ∷ a) b za zb = absurd za
@@ -22,14 +22,14 @@ same_segments (f ∷ files) (s ∷ a) (t ∷ b) za zb =
     ap (λ (x : WholeSegment). x ∷ a) (one_segment f s t za.0 zb.0) ∙ ap (λ (x : List WholeSegment). t ∷ x) (same_segments files a b za.1 zb.1)
 
 -- the segments of files, and of the files behind them
-record Apart (m x : List File) (segments : List WholeSegment) : Type 0 where
-  front : List WholeSegment
-  back : List WholeSegment
-  is : segments ≡ front ++ back
-  front_zip : AllZip IsSegment m front
-  back_zip : AllZip IsSegment x back
+pub record Apart (m x : List File) (segments : List WholeSegment) : Type 0 where
+  pub front : List WholeSegment
+  pub back : List WholeSegment
+  pub is : segments ≡ front ++ back
+  pub front_zip : AllZip IsSegment m front
+  pub back_zip : AllZip IsSegment x back
 
-apart : (m x : List File) (segments : List WholeSegment) → AllZip IsSegment (m ++ x) segments → Apart m x segments
+pub apart : (m x : List File) (segments : List WholeSegment) → AllZip IsSegment (m ++ x) segments → Apart m x segments
 apart [] x segments z = record { front = []; back = segments; is = refl; front_zip = tt; back_zip = z }
 apart (f ∷ m) x [] z = absurd z
 apart (f ∷ m) x (s ∷ segments) z =
@@ -37,7 +37,7 @@ apart (f ∷ m) x (s ∷ segments) z =
     record { front = s ∷ rest.front; back = rest.back; is = ap (λ (t : List WholeSegment). s ∷ t) rest.is; front_zip = (z.0, rest.front_zip); back_zip = rest.back_zip }
 
 -- of two ends of one list, one is an end of the other
-ends : (a x b y : List File) → a ++ x ≡ b ++ y → ((m : List File) × (a ≡ b ++ m) × (y ≡ m ++ x)) ⊎ ((m : List File) × (b ≡ a ++ m) × (x ≡ m ++ y))
+pub ends : (a x b y : List File) → a ++ x ≡ b ++ y → ((m : List File) × (a ≡ b ++ m) × (y ≡ m ++ x)) ⊎ ((m : List File) × (b ≡ a ++ m) × (x ≡ m ++ y))
 ends [] x b y e = inr (b, refl, e)
 ends (f ∷ a) x [] y e = inl (f ∷ a, refl, sym e)
 ends (f ∷ a) x (g ∷ b) y e =
@@ -53,15 +53,21 @@ looked_enough : (file : File) (older : FileList) (segments : List WholeSegment) 
 looked_enough file older segments [] is = absurd cc
 looked_enough file older segments (r ∷ rs) is = ((λ e. cc), is)
 
--- no segments before others reach as far as these do
-no_further : (lowest : ℕ) (s : WholeSegment) (front segments : List WholeSegment) → IsTrue (first_alone_reaches lowest segments) → IsTrue (first_alone_reaches lowest ((s ∷ front) ++ segments)) → ⊥
-no_further lowest s front [] is more = cc
-no_further lowest s front (t ∷ segments) is more =
-    let reaches = (and_parts (leb t.first lowest) (list_all (λ (u : WholeSegment). ltb lowest u.first) segments) is).0 in
+-- segments before others that begin at or below the lowest don't reach there alone
+pub no_earlier : (lowest : ℕ) (s : WholeSegment) (front segments : List WholeSegment) → (segments ≡ [] → ⊥) → first_of segments ≤ lowest → IsTrue (first_alone_reaches lowest ((s ∷ front) ++ segments)) → ⊥
+no_earlier lowest s front [] some low more = some refl
+no_earlier lowest s front (t ∷ segments) some low more =
     let above = (and_parts (leb s.first lowest) (list_all (λ (u : WholeSegment). ltb lowest u.first) (front ++ t ∷ segments)) more).1 in
     let both = and_parts (list_all (λ (u : WholeSegment). ltb lowest u.first) front) (list_all (λ (u : WholeSegment). ltb lowest u.first) (t ∷ segments)) (sym (list_all-append (λ (u : WholeSegment). ltb lowest u.first) front (t ∷ segments)) ∙ above) in
     let first = (and_parts (ltb lowest t.first) (list_all (λ (u : WholeSegment). ltb lowest u.first) segments) both.1).0 in
-    omega (arith, leb-true t.first lowest reaches, ltb-true lowest t.first first)
+    omega (arith, low, ltb-true lowest t.first first)
+
+-- nor do those before others that reach there alone
+pub no_further : (lowest : ℕ) (s : WholeSegment) (front segments : List WholeSegment) → IsTrue (first_alone_reaches lowest segments) → IsTrue (first_alone_reaches lowest ((s ∷ front) ++ segments)) → ⊥
+no_further lowest s front [] is more = cc
+no_further lowest s front (t ∷ segments) is more =
+    let reaches = (and_parts (leb t.first lowest) (list_all (λ (u : WholeSegment). ltb lowest u.first) segments) is).0 in
+    no_earlier lowest s front (t ∷ segments) (λ e. cc) (leb-true t.first lowest reaches) more
 
 begins : (xs : List File) (f : File) (m : List File) → (g : File) × (gs : List File) × (xs ++ f ∷ m ≡ g ∷ gs)
 begins [] f m = (f, m, refl)

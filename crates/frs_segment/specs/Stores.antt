@@ -1,10 +1,14 @@
 -- The files of a whole store: what one who has looked at all of them knows, when two images say the same, and what of a
 -- log an image shows.
-use Rattle.std.specs.Prelude.{◌≡◌, ◌⊎◌, ℕ, ◌+◌, ◌-◌, Bool, false, not, ◌&&◌, nat_lt, List, [], ◌∷◌, map, filter, take, None, unwrap_or}
-use Rattle.std.specs.List.{last_or}
+use Rattle.std.specs.Prelude.{◌≡◌, ◌≢◌, ◌⊎◌, ℕ, ◌+◌, ◌-◌, ◌≤◌, Bool, false, not, ◌&&◌, nat_lt, List, [], ◌∷◌, ◌++◌, map, filter, take, None, unwrap_or}
+use Rattle.std.specs.List.{last_or, AllZip}
+use Rattle.std.specs.FinMap.{entries}
 use Rattle.frs_types.specs.Records.{Log, next_lsn, from_lowest}
+use Rattle.frs_disk.specs.declared.disk.Disk.{Ghosts}
+use Rattle.frs_disk.specs.Disk.{Image}
 use Rattle.frs_segment.specs.declared.layout.Found.{Found}
-use Rattle.frs_segment.specs.Segments.{File, FileList, WholeSegment, is_open_file, SpellsBy, places_of}
+use Rattle.frs_segment.specs.declared.layout.Segment.{Segment}
+use Rattle.frs_segment.specs.Segments.{File, FileList, WholeSegment, IsSegment, is_open_file, open_files, first_of, SpellsBy, places_of}
 use Rattle.frs_segment.specs.Scanning.{places_of_segment}
 
 -- ---- what was found
@@ -38,6 +42,32 @@ abbrev pub SpellsAlike : FileList → FileList → Type 0
 SpellsAlike a b = (log : Log) (segments : List WholeSegment) → SpellsBy a segments log
     → (others : List WholeSegment) × SpellsBy b others log
     × ((log.records ≡ []) ⊎ (places_of others ≡ places_of segments))
+
+-- each image that a crash now may leave spells what is read, and unless that is the empty log by the same files
+abbrev pub LeavesAlike : {D : Type 0} → Ghosts D → D → Type 0
+LeavesAlike g disk = (c : Image) → g.may_leave disk c → SpellsAlike (entries (g.reads disk)) (entries c)
+
+-- ---- the newest files
+
+-- The newest open files of the image are these segments.
+pub record HasNewest (image : FileList) (segments : List WholeSegment) : Type 0 where
+  pub older : FileList
+  pub looked : FileList
+  pub files : older ++ looked ≡ open_files image
+  pub each : AllZip IsSegment looked segments
+
+-- They are these as one knows them who has read their files, chunk by chunk.
+abbrev pub HasSegments : FileList → List Segment → Type 0
+HasSegments image segments = (whole : List WholeSegment) × HasNewest image whole
+    × (segments ≡ map places_of_segment whole)
+
+-- They have these numbers and first LSNs, and begin at or below this LSN.
+pub record HasNewestAt (places : List (ℕ × ℕ)) (first : ℕ) (image : FileList) : Type 0 where
+  pub segments : List WholeSegment
+  pub newest : HasNewest image segments
+  pub some : segments ≢ []
+  pub places_are : places_of segments ≡ places
+  pub reaches : first_of segments ≤ first
 
 -- ---- a log up to one of its records
 
