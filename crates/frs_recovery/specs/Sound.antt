@@ -1,13 +1,13 @@
 -- Sound images, the state that a recovery of them gives, and disks from which a session can go on.
-use Rattle.std.specs.Prelude.{◌≡◌, ℕ, ◌<◌, List, [], IsSome}
-use Rattle.std.specs.FinMap.{entries, get}
+use Rattle.std.specs.Prelude.{◌≡◌, List, []}
+use Rattle.std.specs.FinMap.{entries}
 use Rattle.frs_types.specs.declared.record.Record.{Record}
 use Rattle.frs_types.specs.Records.{from_lowest}
 use Rattle.frs_types.specs.Lawful.{LogState, Lawful, lowest, table_of}
 use Rattle.frs_disk.specs.declared.disk.Disk.{Ghosts}
-use Rattle.frs_disk.specs.Disk.{Image}
+use Rattle.frs_disk.specs.Frames.{RemovesBelow}
 use Rattle.frs_segment.specs.Segments.{FileList, Spells}
-use Rattle.frs_segment.specs.Stores.{SpellsAlike}
+use Rattle.frs_segment.specs.Stores.{LeavesAlike}
 use Rattle.frs_recovery.specs.declared.recovered.Recovered.{Recovered}
 
 -- ---- images
@@ -24,13 +24,9 @@ pub record HasState (s : LogState) (r : Recovered) : Type 0 where
 
 -- ---- disks
 
--- the number of each file whose removal is pending is below that of a file that is there
-abbrev pub RemovesBelow : {D : Type 0} → Ghosts D → D → Type 0
-RemovesBelow g disk = (n : ℕ) → g.removing disk n → (m : ℕ) × IsSome (get (g.reads disk) m) × (n < m)
-
 -- What the disk reads is sound, each crash now leaves an image that spells the same alike, and no removal is pending at
 -- or above the greatest of the files that are there.
 pub record IsReady {D : Type 0} (g : Ghosts D) (disk : D) : Type 0 where
   pub sound : IsSound (entries (g.reads disk))
-  pub alike : (c : Image) → g.may_leave disk c → SpellsAlike (entries (g.reads disk)) (entries c)
+  pub alike : LeavesAlike g disk
   pub removed : RemovesBelow g disk

@@ -2,6 +2,8 @@
 ghost use Rattle.std.specs.Prelude.{◌<◌};
 ghost use Rattle.frs_disk.specs.Disk.{IsNumber};
 
+mod read_order;
+
 use super::*;
 use frs_disk::{Disk, FaultPlan, MemDisk};
 use frs_types::NoMemory;
@@ -23,19 +25,6 @@ const WHOLE: [u8; 156] = [
 const MARK: [u8; 43] = [
     1, 0, 0, 0, 25, 0, 0, 0, 1, 0, 0, 0, 0, 0, 0, 0, 2, 7, 0, 0, 0, 0, 0, 0, 0, 0, 0, 0, 0, 0, 0,
     0, 0, 2, 0, 0, 0, 0, 0, 0, 0, 0, 0,
-];
-
-// What a recovery reads of the whole segment, as the file's number, the offset and the room: the header, each gate
-// with the head behind it, and then the chunks from the newest to the oldest.
-const READS: [(u64, u64, u64); 8] = [
-    (1, 0, 23),
-    (1, 22, 17),
-    (1, 64, 17),
-    (1, 113, 17),
-    (1, 155, 17),
-    (1, 113, 43),
-    (1, 64, 50),
-    (1, 22, 43),
 ];
 
 // A segment's header behind a closed gate, and the closed gate of its first chunk.
@@ -375,15 +364,6 @@ fn empty(alloc: Global, number: u8, first: u8) -> Result<Vec<u8>, NoMemory> {
 
 // One segment that was cut.
 #[test]
-fn reads_of_a_segment(rt: HostRuntime) -> Result<(), Fail> {
-    let alloc = rt.alloc();
-    let mut disk = one(alloc, 1, changed(alloc, 0, 1)?)?;
-    assert!(rt; recover(alloc, &mut disk).is_ok());
-    assert!(rt; disk.reads() == READS.as_slice());
-    Ok(())
-}
-
-#[test]
 fn cut_files(rt: HostRuntime) -> Result<(), Fail> {
     let alloc = rt.alloc();
     let fault = refusal(alloc, one(alloc, 1, cut(alloc, 100)?)?)?;
@@ -483,22 +463,6 @@ fn a_crash_at_the_gate_of_the_file(rt: HostRuntime) -> Result<(), Fail> {
     let alloc = rt.alloc();
     let files = one(alloc, 1, Vec::from_slice(alloc, &GATE_CLOSED)?)?;
     expect_store(&rt, alloc, files, &NOTHING, &FIRST_HALF_MADE)?;
-    Ok(())
-}
-
-// The whole segment, whose put's body has the greatest length that can be written.
-fn body_past_the_end(alloc: Global) -> Result<Vec<u8>, NoMemory> {
-    let mut bytes = cut(alloc, 65)?;
-    bytes.extend_from_slice(&[0xff, 0xff, 0xff, 0xff])?;
-    bytes.extend_from_slice(&WHOLE[69..])?;
-    Ok(bytes)
-}
-
-#[test]
-fn a_body_past_the_end(rt: HostRuntime) -> Result<(), Fail> {
-    let alloc = rt.alloc();
-    let fault = refusal(alloc, one(alloc, 1, body_past_the_end(alloc)?)?)?;
-    assert_eq!(rt; fault, Some(chunk(64)));
     Ok(())
 }
 
