@@ -103,7 +103,7 @@ impl Drawer {
 
     /// Draws the next LSN for a record, which has to be below 2^62. Wherever there is room by what the drawer knows,
     /// it answers the slip for it. `NoRoom` comes only where the drawer has looked in this call and the ring is full
-    /// by what it then knows; nothing is drawn. Takes no memory.
+    /// by what it then knows; nothing is drawn. Where there is room it doesn't look. Takes no memory.
     pub fn draw(&mut self, framed: Framed) -> Result<Slip, NoRoom>
         requires { next_drawn self.old < NUMBER_LIMIT }
         ensures drawn { IfOk result (λ slip. DrewRecord self.old framed self.new
@@ -116,6 +116,8 @@ impl Drawer {
               known_taken = self.new.known_taken;
             })) }
         ensures room { HasRoom self.old → IsOk result }
+        ensures unlooked { HasRoom self.old → (self.new.known_taken ≡ self.old.known_taken)
+            × (self.new.loads ≡ self.old.loads) }
     {
         if let Some((drawn, known_taken)) = self.room() {
             return Err(NoRoom {

@@ -22,3 +22,8 @@ returns-clause-drawn c =
       c.new.ensures.1 ∙ c.self.invariant.next ∙ ap next_drawn (seen ∙ same),
       c.new.ensures.0 ∙ ap (λ (p : Pushes). pushes_on p) c.of.ensures ∙ ring,
     )
+
+pub returns-clause-unlooked : goal.returns-clause-unlooked
+returns-clause-unlooked c room =
+    let same = c.self.view_is ∙ c.room.ensures.unlooked room in
+    (ap (λ (d : DrawerView). d.known_taken) same, ap (λ (d : DrawerView). d.loads) same)
