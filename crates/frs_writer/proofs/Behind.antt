@@ -6,19 +6,21 @@ use Rattle.std.specs.FinMap.{entries, get}
 use Rattle.frs_types.specs.declared.record.Record.{Record}
 use Rattle.frs_types.specs.Records.{Log, IsPlaced, next_lsn}
 use Rattle.frs_disk.specs.declared.disk.Disk.{Ghosts}
-use Rattle.frs_disk.specs.Disk.{Image, AgreesElsewhere, bytes_at}
+use Rattle.frs_disk.specs.Disk.{Image, SameElsewhere, AgreesElsewhere, bytes_at}
 use Rattle.frs_disk.specs.Frames.{IsSynced, Within, LeftNoFile}
 use Rattle.frs_segment.specs.declared.layout.Segment.{Segment}
 use Rattle.frs_segment.specs.Segments.{WholeSegment, segment_spelling, body, is_chunk, end_of}
+use Rattle.frs_segment.specs.Stores.{LeavesAlike, HasSegments, HasNewestAt}
 use Rattle.frs_segment.specs.Scanning.{places_of_segment}
 use Rattle.frs_slots.specs.Views.{next_taken}
 use Rattle.frs_writer.specs.Gates.{IsShut, sealed_chunk}
 use Rattle.frs_writer.specs.Groups.{joined_records}
 use Rattle.frs_writer.specs.Invariant.{IsCounted, ShowsFrom, durable_of, IsKept}
 use Rattle.frs_writer.specs.LogImages.{ShowsLog, EndsWithSegment, with_chunk}
-use Rattle.frs_writer.specs.Writer.{WriterView, IsLog, WasEmpty, IsWellOpened}
+use Rattle.frs_writer.specs.Writer.{WriterView, IsLog, WasEmpty}
 use Rattle.frs_writer.specs.Places.{with_chunk_place, with_newest_grown}
 use Rattle.frs_writer.proofs.Grouping.{Grouping, grouping, placed_before, durable_is, behind_is, grown_is, group_within, group_chunk, group_long, sealed_is, newest_is, front_read, first_is}
+use Rattle.frs_writer.proofs.HasNewest.{at_chunk, read_chunk}
 use Rattle.frs_writer.proofs.Parted.{joined_body}
 use Rattle.frs_writer.proofs.Places.{described_grown, newest_grown}
 use Rattle.frs_writer.proofs.ShowsLog.{rests_shows}
@@ -34,9 +36,12 @@ module _ {D : Type 0} (g : Ghosts D) (as_read : (disk : D) → IsTrue (g.tells d
     pub newest : counted.newest ≡ places_of_segment last
     pub before : List WholeSegment
     pub segments : w.segments ≡ map places_of_segment (before ++ last ∷ [])
+    pub read : HasSegments (entries (g.reads w.disk)) w.segments
+    pub places : List (ℕ × ℕ)
+    pub at : (c : Image) → g.may_leave w.disk c → HasNewestAt places log'.first (entries c)
 
   pub behind : (w w' : WriterView D) (kept : IsKept g w) (group more : List (List ℕ)) (still : Option (List ℕ)) (log' : Log)
-      → w.ended ≡ None → IsTrue (g.tells w.disk) → IsWellOpened g w.opened
+      → w.ended ≡ None → IsTrue (g.tells w.disk) → LeavesAlike g w.opened
       → w'.opened ≡ w.opened → w'.taker.taken ≡ w.taker.taken ++ more → group ++ option_to_list still ≡ option_to_list w.kept ++ more
       → IsLog g w' log' → IsPlaced log' → Behind w w' kept.counted group log'
   behind w w' kept group more still log' fine told well same grows parts is_log placed =
@@ -54,6 +59,9 @@ module _ {D : Type 0} (g : Ghosts D) (as_read : (disk : D) → IsTrue (g.tells d
         newest = newest_is w kept.counted before last segments;
         before = before;
         segments = segments;
+        read = held.read fine;
+        places = (held.alike fine).0;
+        at = λ c left. subst (λ (n : ℕ). HasNewestAt (held.alike fine).0 n (entries c)) (sym (first_is g w w' group log' grouped placed)) ((held.alike fine).1 c left);
       }
 
   module _ (w w' : WriterView D) (counted : IsCounted w) (group : List (List ℕ)) (log' : Log) (placed : IsPlaced log') (b : Behind w w' counted group log') where
@@ -74,6 +82,15 @@ module _ {D : Type 0} (g : Ghosts D) (as_read : (disk : D) → IsTrue (g.tells d
       group_within g w w' group log' b.grouped placed b.next,
       subst (λ (l : List Record). ShowsLog (WasEmpty g w.opened) (LeftNoFile g w.opened) (entries c) log'.first l) (sym (grown_is g w w' group log' b.grouped placed b.next)) shows,
     )
+
+    -- the newest files of an image, once the last one has the group
+    module _ (e c : Image) (was : g.may_leave w.disk e) (same : SameElsewhere b.last.number e c) (records : List Record)
+        (now : EndsWithSegment (WasEmpty g w.opened) (LeftNoFile g w.opened) (entries c) log'.first records (with_chunk b.last b.grouped.rs)) where
+      pub group_at : HasNewestAt b.places log'.first (entries c)
+      group_at = at_chunk log'.first b.grouped.front records b.last b.grouped.rs e c (b.rest e was) same now b.places log'.first (b.at e was)
+
+      pub group_read : HasSegments (entries e) w.segments → (after : List Segment) → after ≡ map places_of_segment (b.before ++ with_chunk b.last b.grouped.rs ∷ []) → HasSegments (entries c) after
+      group_read read after is = read_chunk log'.first b.grouped.front records b.last b.grouped.rs e c (b.rest e was) same now b.before w.segments after read b.segments is
 
     pub number_is : counted.newest.number ≡ b.last.number
     number_is = ap (λ (s : Segment). s.number) b.newest

@@ -10,9 +10,10 @@ use Rattle.frs_disk.specs.Frames.{LeftNoFile}
 use Rattle.frs_segment.specs.Order.{IsInOrder}
 use Rattle.frs_segment.proofs.IsInOrder.{none_half}
 use Rattle.frs_segment.specs.Segments.{FileList, WholeSegment, IsSegment, open_files, Spells, follow_from}
+use Rattle.frs_segment.specs.Stores.{LeavesAlike}
 use Rattle.frs_writer.specs.Invariant.{ShowsFrom, IsKept}
 use Rattle.frs_writer.specs.LogImages.{ShowsLog, EndsWithSegment}
-use Rattle.frs_writer.specs.Writer.{WriterView, IsLog, WasEmpty, IsWellOpened}
+use Rattle.frs_writer.specs.Writer.{WriterView, IsLog, WasEmpty}
 use Rattle.frs_writer.specs.Writing.{HoldsAll, HoldsLog, HoldsFrom}
 use Rattle.frs_writer.proofs.ShowsLog.{base_shows, rests_shows, rests_open}
 
@@ -59,7 +60,7 @@ pub spelled_none : {fresh : Type 0} (image : FileList) → (fresh → image ≡ 
 spelled_none image none (segments, by) = shows_whole image 1 [] (base_shows image segments (record { first = 1; records = [] }) none by) refl
 
 module _ {D : Type 0} (g : Ghosts D) (w : WriterView D) (kept : IsKept g w)
-    (told : IsTrue (g.tells w.disk)) (well : IsWellOpened g w.opened) (log : Log) (is_log : IsLog g w log) (placed : IsPlaced log) (empty : WasEmpty g w.opened) where
+    (told : IsTrue (g.tells w.disk)) (well : LeavesAlike g w.opened) (log : Log) (is_log : IsLog g w log) (placed : IsPlaced log) (empty : WasEmpty g w.opened) where
   -- what is durable, where nothing was cut short
   pub durable_whole : w.ended ≡ None → (c : Image) → g.may_leave w.disk c → HoldsLog (LeftNoFile g w.opened) 0 (entries c) (take w.synced log.records)
   durable_whole fine c left =

@@ -16,12 +16,14 @@ use Rattle.frs_segment.specs.Front.{empty_segment}
 use Rattle.frs_segment.specs.declared.layout.Found.{Found}
 use Rattle.frs_segment.specs.Segments.{File, WholeSegment, IsSegment, SpellsBy, Spells, is_open_file, open_files, all_records, records_of, end_of, first_of, follow_from, places_of}
 use Rattle.frs_segment.specs.Segments.{FileList}
-use Rattle.frs_segment.specs.Stores.{IsFound, SpellsAlike, is_below, numbers_of}
+use Rattle.frs_segment.specs.Stores.{IsFound, SpellsAlike, HasSegments, HasNewestAt, is_below, numbers_of}
 use Rattle.frs_writer.specs.Setup.{MissesSome, IsOpening}
 use Rattle.frs_writer.specs.LogImages.{ShowsLog, EndsWithSegment, TakesNext, new_segment}
-use Rattle.frs_segment.proofs.SpellsBy.{rising}
+use Rattle.frs_segment.proofs.SpellsAlike.{none_left}
+use Rattle.frs_segment.proofs.SpellsBy.{rising, enough_reaches}
 use Rattle.frs_writer.proofs.TakesNext.{none_order, none_looked}
-use Rattle.frs_writer.proofs.ShowsLog.{base_shows, spells, shows_takes}
+use Rattle.frs_writer.proofs.HasNewest.{at_next, at_only}
+use Rattle.frs_writer.proofs.ShowsLog.{base_shows, spells, shows_takes, reaches_from, empty_made}
 use Rattle.frs_writer.proofs.EndsWithSegment.{one_next, one_making}
 use Rattle.frs_writer.proofs.MissesSome.{thin_absent}
 use Rattle.frs_writer.proofs.NumbersOf.{sorted_kept, filter_whole, filter_swap, lower_before, there_behind, all_there, all_numbers_there, by_numbers, Kept, kept_there}
@@ -136,6 +138,11 @@ some_others : (old : FileList) (others : List WholeSegment) (log : Log) → Spel
 some_others old [] log by some none = some (ap (λ (l : Log). l.records) by.shown ∙ drop_all (named_lowest [] - 1) [] (omega arith))
 some_others old (o ∷ others) log by some none = cc
 
+-- the places of the newest files behind which a segment was made: those of the log, if it has a record, and its own
+abbrev pub begun_places : List Record → List WholeSegment → ℕ → ℕ → List (ℕ × ℕ)
+begun_places [] segments number first = (number, first) ∷ []
+begun_places (r ∷ rs) segments number first = places_of segments ++ (number, first) ∷ []
+
 -- ---- what stays
 
 stays : (x y : Option (List ℕ)) (Gone : Type 0) → (x ≡ y) ⊎ (Gone × (x ≡ None)) → x ≡ cond (is_some x) y None
@@ -183,11 +190,11 @@ module _ (a d e : Image) (segments : List WholeSegment) (log : Log) (found : Fou
       clash true false p q = cc
       clash false false p q = cc
 
-  -- and no file of a segment has its number
-  half_shut : (q : ℕ) → IsSome (find nat_cmp q is.spelled.looked) → Contains found.half q → ⊥
-  half_shut q some has =
+  -- and no open file has its number
+  half_closed : (q : ℕ) → IsSome (find nat_cmp q (open_files (entries a))) → Contains found.half q → ⊥
+  half_closed q some has =
       let half = half_there q has in
-      let open_one = kept_there is_open_file (entries a) (entries_sorted a) q (subst (λ (l : List File). IsSome (find nat_cmp q l)) is.spelled.files (there_behind is.spelled.older is.spelled.looked q some)) in
+      let open_one = kept_there is_open_file (entries a) (entries_sorted a) q some in
       clash half.bytes open_one.bytes half.is open_one.is half.passes open_one.passes
     where
       clash : (b o : List ℕ) → find nat_cmp q (entries a) ≡ Some b → find nat_cmp q (entries a) ≡ Some o → is_half segments (q, b) ≡ true → is_open_file (q, o) ≡ true → ⊥
@@ -201,6 +208,38 @@ module _ (a d e : Image) (segments : List WholeSegment) (log : Log) (found : Fou
           bools : (x y : Bool) → (not x && not y) ≡ true → x ≡ true → ⊥
           bools true y p q = cc
           bools false y p q = cc
+
+  -- so no file of a segment has it
+  half_shut : (q : ℕ) → IsSome (find nat_cmp q is.spelled.looked) → Contains found.half q → ⊥
+  half_shut q some = half_closed q (subst (λ (l : List File). IsSome (find nat_cmp q l)) is.spelled.files (there_behind is.spelled.older is.spelled.looked q some))
+
+  -- where none of the open files is one of those they stay
+  open_stays : All (λ (f : File). Contains found.half f.0 → ⊥) (open_files (entries d)) → open_files (entries e) ≡ open_files (entries d)
+  open_stays none_half = stay_open ∙ filter_whole still (open_files (entries d)) (λ k f lt. one (slice_index_or (open_files (entries d)) k f) (none_half k f lt) (open_there k f lt))
+    where
+      open_there : All (λ (f : File). IsSome (find nat_cmp f.0 (entries d))) (open_files (entries d))
+      open_there = All-filter is_open_file (λ (f : File). IsSome (find nat_cmp f.0 (entries d))) (entries d) (all_there (entries d))
+
+      one : (f : File) → (Contains found.half f.0 → ⊥) → IsSome (find nat_cmp f.0 (entries d)) → still f ≡ true
+      one f other there = ⊎_elim (λ was. ap is_some (was ∙ get-entries d f.0) ∙ there) (λ gone. absurd (other gone.0)) (thin f.0)
+
+  -- so what was read has its segments still
+  pub still_read : d ≡ a → HasSegments (entries e) found.segments
+  still_read same = (
+    segments,
+    record {
+      older = is.spelled.older;
+      looked = is.spelled.looked;
+      files = is.spelled.files ∙ sym (open_stays (subst (λ (x : Image). All (λ (f : File). Contains found.half f.0 → ⊥) (open_files (entries x))) (sym same) none_half) ∙ ap (λ (x : Image). open_files (entries x)) same);
+      each = is.spelled.each;
+    },
+    is.segments_are,
+  )
+    where
+      none_half : All (λ (f : File). Contains found.half f.0 → ⊥) (open_files (entries a))
+      none_half =
+          All-weaker (λ (f : File). IsSome (find nat_cmp f.0 (open_files (entries a)))) (λ (f : File). Contains found.half f.0 → ⊥) (λ f there. half_closed f.0 there) (open_files (entries a))
+          (all_there (open_files (entries a)))
 
   module _ (others : List WholeSegment) (by : SpellsBy (entries d) others log) (same : places_of others ≡ places_of segments) (some : log.records ≡ [] → ⊥) where
     numbers_alike : numbers_of is.spelled.looked ≡ numbers_of by.looked
@@ -223,16 +262,28 @@ module _ (a d e : Image) (segments : List WholeSegment) (log : Log) (found : Fou
             (subst (All (λ (n : ℕ). IsSome (find nat_cmp n is.spelled.looked))) numbers_alike (all_numbers_there is.spelled.looked)))
 
     open_stay : open_files (entries e) ≡ open_files (entries d)
-    open_stay = stay_open ∙ filter_whole still (open_files (entries d)) (λ k f lt. one (slice_index_or (open_files (entries d)) k f) (none_half k f lt) (open_there k f lt))
-      where
-        open_there : All (λ (f : File). IsSome (find nat_cmp f.0 (entries d))) (open_files (entries d))
-        open_there = All-filter is_open_file (λ (f : File). IsSome (find nat_cmp f.0 (entries d))) (entries d) (all_there (entries d))
+    open_stay = open_stays none_half
 
-        one : (f : File) → (Contains found.half f.0 → ⊥) → IsSome (find nat_cmp f.0 (entries d)) → still f ≡ true
-        one f other there = ⊎_elim (λ was. ap is_some (was ∙ get-entries d f.0) ∙ there) (λ gone. absurd (other gone.0)) (thin f.0)
+    some_at : HasNewestAt (places_of segments) log.first (entries e)
+    some_at =
+        let reach : first_of others ≤ named_lowest (all_records others) =
+        reaches_from (named_lowest (all_records others)) others (enough_reaches by.older others (all_records others) (λ none. some (ap (λ (l : Log). l.records) by.shown ∙ none_left (named_lowest (all_records others) - first_of others) (all_records others) none)) by.enough) in
+        record {
+          segments = others;
+          newest = record { older = by.older; looked = by.looked; files = by.files ∙ sym open_stay; each = by.each };
+          some = some_others (entries d) others log by some;
+          places_are = same;
+          reaches = omega (arith, reach, ap (λ (l : Log). l.first) by.shown);
+        }
 
     some_shows : ShowsLog (log.records ≡ []) fresh (entries e) log.first log.records
     some_shows = base_shows (entries e) others log none_then (spelled_alike (entries d) (entries e) others log by open_stay (rising e))
+
+  -- where the log has a record its files stand at their places still
+  pub thin_at : SpellsAlike (entries a) (entries d) → (log.records ≡ [] → ⊥) → HasNewestAt (places_of segments) log.first (entries e)
+  thin_at alike some =
+      let (others, by, same) = alike log segments is.spelled in
+      ⊎_elim (λ none. absurd (some none)) (λ places. some_at others by places some) same
 
   -- once some of the half-made files are gone
   pub thin_shows : SpellsAlike (entries a) (entries d) → ShowsLog (log.records ≡ []) fresh (entries e) log.first log.records
@@ -275,6 +326,22 @@ module _ (a : Image) (segments : List WholeSegment) (log : Log) (found : Found) 
 
   pub opening_rests : get c number ≡ Some (empty_segment number first) → EndsWithSegment (log.records ≡ []) fresh (entries c) log.first log.records (new_segment number first)
   opening_rests made = one_next log.first log.records number first opening.thinned c base takes opening.elsewhere none_thinned next_first low high least_first most made
+
+  -- the places of the newest files once the segment is made
+  pub opening_at : get c number ≡ Some (empty_segment number first) → HasNewestAt (begun_places log.records segments number first) log.first (entries c)
+  opening_at made = at log.records refl
+    where
+      segment : IsSegment (number, empty_segment number first) (new_segment number first)
+      segment = empty_made number first low high least_first most
+
+      some_not : (r : Record) (rs : List Record) → r ∷ rs ≡ [] → ⊥
+      some_not r rs none = cc
+
+      at : (records : List Record) → log.records ≡ records → HasNewestAt (begun_places records segments number first) log.first (entries c)
+      at [] none = at_only number first opening.thinned c opening.elsewhere none_thinned segment made log.first (omega (arith, next_first, ap length none))
+      at (r ∷ rs) some =
+          at_next number first opening.thinned c opening.elsewhere none_thinned segment made (places_of segments) log.first
+          (thin_at a opening.base opening.thinned segments log found is opening.by fresh (λ f. blank f opening.base opening.was) (alike opening.base opening.was) (λ none. some_not r rs (sym some ∙ none)))
 
   pub opening_spells : Spells (entries c) log
   opening_spells =

@@ -1,10 +1,11 @@
 -- Parts of a placed log.
-use Rattle.std.proofs.Common.{◌≡◌, ℕ, ◌+◌, ◌<◌, ◌≤◌, true, List, [], ◌∷◌, ◌++◌, length, Some, refl, subst, arith}
+use Rattle.std.proofs.Common.{◌≡◌, ℕ, ◌+◌, ◌<◌, ◌≤◌, true, List, [], ◌∷◌, ◌++◌, length, Option, Some, refl, subst, arith, IsTrue}
 use Rattle.std.specs.Prelude.{nat_lt, nat_le, ◌&&◌, unwrap_or, option_map}
 use Rattle.std.specs.List.{last_or}
 use Rattle.std.proofs.lemmas.Bool.{and_parts, and_from, leb-true, ltb-true}
 use Rattle.frs_types.specs.declared.record.Record.{Record}
 use Rattle.frs_types.specs.Records.{is_allowed, are_allowed_from, are_placed_from, named_lowest, kind_allows, has_words}
+use Rattle.frs_types.proofs.Allowed.{lowest_at_most}
 
 pub placed_front : (low n : ℕ) (rs qs : List Record) → are_placed_from low n (rs ++ qs) ≡ true → are_placed_from low n rs ≡ true
 placed_front low n [] qs all = refl
@@ -73,3 +74,19 @@ first_below low n first [] (q ∷ qs) all is some =
 first_below low n first (r ∷ rs) qs all is some =
     let both = and_parts (is_allowed n r && nat_le low r.lowest) (are_placed_from r.lowest (n + 1) (rs ++ qs)) all in
     omega (arith, is, lowest_cons r rs, lowest_cons r (rs ++ qs), lowest_append r.lowest (n + 1) rs qs both.1)
+
+abbrev named_lowest_or : Option Record → List Record → ℕ
+named_lowest_or o rs = unwrap_or (option_map (λ (r : Record). r.lowest) (last_or o rs)) 1
+
+newest_lowest : (n : ℕ) (q : Record) (rs : List Record) → q.lowest < n → IsTrue (are_allowed_from n rs) → named_lowest_or (Some q) rs < n + length rs
+newest_lowest n q [] lt all = omega (arith, lt)
+newest_lowest n q (r ∷ rs) lt all =
+    let parts = and_parts (is_allowed n r) (are_allowed_from (n + 1) rs) all in
+    omega (arith, newest_lowest (n + 1) r rs (omega (arith, lowest_at_most n r parts.0)) parts.1)
+
+-- the newest record names no lowest above its own LSN
+pub named_below : (n : ℕ) (rs : List Record) → (rs ≡ [] → ⊥) → IsTrue (are_allowed_from n rs) → named_lowest rs < n + length rs
+named_below n [] some all = absurd (some refl)
+named_below n (r ∷ rs) some all =
+    let parts = and_parts (is_allowed n r) (are_allowed_from (n + 1) rs) all in
+    omega (arith, newest_lowest (n + 1) r rs (omega (arith, lowest_at_most n r parts.0)) parts.1)

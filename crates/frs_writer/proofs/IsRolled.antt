@@ -12,17 +12,19 @@ use Rattle.frs_disk.specs.Disk.{Image}
 use Rattle.frs_disk.specs.Frames.{ChangesOneFile, IsSynced, Within, LeftNoFile}
 use Rattle.frs_segment.specs.Front.{IsInTheMaking, empty_segment}
 use Rattle.frs_segment.specs.declared.layout.Segment.{Segment}
-use Rattle.frs_segment.specs.Segments.{WholeSegment}
+use Rattle.frs_segment.specs.Segments.{WholeSegment, IsSegment}
+use Rattle.frs_segment.specs.Stores.{LeavesAlike}
 use Rattle.frs_segment.specs.Scanning.{places_of_segment}
 use Rattle.frs_slots.specs.Views.{TakerView}
 use Rattle.frs_writer.specs.Gates.{IsAtGate}
 use Rattle.frs_writer.specs.Invariant.{IsCounted, ShowsFrom, durable_of, ShowsDurable, IsKept}
 use Rattle.frs_writer.specs.LogImages.{EndsWithSegment, TakesNext, new_segment}
-use Rattle.frs_writer.specs.Writer.{WriterView, IsLog, WasEmpty, IsWellOpened}
+use Rattle.frs_writer.specs.Writer.{WriterView, IsLog, WasEmpty}
 use Rattle.frs_writer.specs.Places.{length_of_newest, number_of_newest}
 use Rattle.frs_writer.specs.Writing.{is_due}
 use Rattle.frs_writer.proofs.Grouping.{newest_is}
-use Rattle.frs_writer.proofs.ShowsLog.{rests_shows, rests_end, rests_takes, some_records}
+use Rattle.frs_writer.proofs.HasNewest.{at_next, read_next}
+use Rattle.frs_writer.proofs.ShowsLog.{rests_shows, rests_end, rests_takes, some_records, empty_made}
 use Rattle.frs_writer.proofs.Places.{newest_length, newest_number, newest_get}
 use Rattle.frs_writer.proofs.EndsWithSegment.{one_next, one_making}
 
@@ -93,7 +95,7 @@ module _ {D : Type 0} (g : Ghosts D)
         let work = kept.at_work fine told in
         stays_absent w.disk q e told (work.none_above q (omega (arith, at))) (work.none_removed q (omega (arith, at))) was
 
-    module _ (told : IsTrue (g.tells w.disk)) (well : IsWellOpened g w.opened) (log : Log) (is_log : IsLog g w log) (placed : IsPlaced log) where
+    module _ (told : IsTrue (g.tells w.disk)) (well : LeavesAlike g w.opened) (log : Log) (is_log : IsLog g w log) (placed : IsPlaced log) where
       held : ShowsDurable g w log
       held = kept.holds told well log is_log placed
 
@@ -127,6 +129,9 @@ module _ {D : Type 0} (g : Ghosts D)
           one_next log.first (durable_of w log).records next_number (w.synced + 1) e c (rests_shows (rest e was)) (takes last e (rest e was) before segments) same (none_there told e was)
           (ends_at last e (rest e was) before segments) (omega (arith, kept.counted.number)) high (omega arith) below (durable c left ∙ made)
 
+      made_next : IsSegment (next_number, empty_segment next_number (w.synced + 1)) (new_segment next_number (w.synced + 1))
+      made_next = empty_made next_number (w.synced + 1) (omega (arith, kept.counted.number)) high (omega arith) below
+
       rolled_holds : IsSynced g d next_number → get (g.reads d) next_number ≡ Some (empty_segment next_number (w.synced + 1)) → ShowsDurable g rolled_view log
       rolled_holds durable made =
           let (last, rest, (before, segments)) = held.newest fine in
@@ -142,6 +147,15 @@ module _ {D : Type 0} (g : Ghosts D)
                     ∙ sym (map-append places_of_segment (before ++ last ∷ []) (new_segment next_number (w.synced + 1) ∷ [])),
               ),
             );
+            read = λ none.
+                read_next next_number (w.synced + 1) (g.reads w.disk) (g.reads d) (frame.others told) (λ q at. (kept.at_work fine told).none_above q (omega (arith, at))) made_next made w.segments (held.read fine);
+            alike = λ none.
+                let (places, at) = held.alike fine in (
+                  places ++ (next_number, w.synced + 1) ∷ [],
+                  λ c left.
+                      let (e, was, same) = frame.elsewhere c (counts_now d (g.moment w.disk) c frame.time.later left) in
+                      at_next next_number (w.synced + 1) e c same (none_there told e was) made_next (durable c left ∙ made) places log.first (at e was),
+                );
           }
 
     pub kept_cut : (fault : Fault) → IsKept g (cut_view fault)
@@ -155,6 +169,8 @@ module _ {D : Type 0} (g : Ghosts D)
             next_is = (kept.holds (told_before told) well log l placed).next_is;
             each = λ c left. rolled_images (told_before told) well log l placed c (counts_now d (g.moment w.disk) c frame.time.later left);
             newest = λ none. absurd (some_none fault none);
+            read = λ none. absurd (some_none fault none);
+            alike = λ none. absurd (some_none fault none);
           };
     }
 
@@ -223,6 +239,8 @@ kept_same g w t first taken kept = record {
         next_is = omega (arith, held.next_is, first, ap length taken);
         each = held.each;
         newest = held.newest;
+        read = held.read;
+        alike = held.alike;
       };
 }
 
@@ -260,6 +278,8 @@ kept_noted g w at lsn le kept = record {
         next_is = held.next_is;
         each = held.each;
         newest = held.newest;
+        read = held.read;
+        alike = held.alike;
       };
 }
 

@@ -2,6 +2,7 @@ mod Behind
 mod EndsWithSegment
 mod GathersGroup
 mod Grouping
+mod HasNewest
 mod HoldsLog
 mod IsFound
 mod IsOpening

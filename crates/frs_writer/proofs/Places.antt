@@ -79,15 +79,15 @@ newest_chunks [] s = refl
 newest_chunks (x ∷ []) s = refl
 newest_chunks (x ∷ y ∷ older) s = newest_chunks (y ∷ older) s
 
-pub same_newest : (xs bs : List Segment) (a b : Segment) → xs ++ a ∷ [] ≡ bs ++ b ∷ [] → (xs ≡ bs) × (a ≡ b)
+pub same_newest : {A : Type 0} (xs bs : List A) (a b : A) → xs ++ a ∷ [] ≡ bs ++ b ∷ [] → (xs ≡ bs) × (a ≡ b)
 same_newest [] [] a b is = (refl, cc)
 same_newest [] (y ∷ bs) a b is = absurd (omega (arith, ap length is, length-append bs (b ∷ [])))
 same_newest (x ∷ xs) [] a b is = absurd (omega (arith, ap length is, length-append xs (a ∷ [])))
-same_newest (x ∷ xs) (y ∷ bs) a b is =
+same_newest {A} (x ∷ xs) (y ∷ bs) a b is =
     let head : x ≡ y = cc in
     let tail : xs ++ a ∷ [] ≡ bs ++ b ∷ [] = cc in
     let rest = same_newest xs bs a b tail in
-    (ap (λ (z : Segment). z ∷ xs) head ∙ ap (λ (l : List Segment). y ∷ l) rest.0, rest.1)
+    (ap (λ (z : A). z ∷ xs) head ∙ ap (λ (l : List A). y ∷ l) rest.0, rest.1)
 
 -- the newest segment at its index
 pub newest_get : (segments older : List Segment) (s d : Segment) → segments ≡ older ++ s ∷ [] → get_or segments (length segments - 1) d ≡ s

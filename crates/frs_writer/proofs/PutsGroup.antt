@@ -9,6 +9,7 @@ use Rattle.frs_disk.specs.declared.disk.Disk.{Ghosts}
 use Rattle.frs_disk.specs.declared.disk.Fault.{Fault}
 use Rattle.frs_disk.specs.Disk.{Image, SameElsewhere, bytes_at}
 use Rattle.frs_disk.specs.Frames.{ChangesOneFile, IsSynced, Within, LeftNoFile}
+use Rattle.frs_segment.specs.Stores.{LeavesAlike, HasSegments, HasNewestAt}
 use Rattle.frs_segment.specs.declared.layout.Segment.{Segment}
 use Rattle.frs_slots.specs.Views.{TakerView, next_taken}
 use Rattle.frs_segment.specs.Front.{chunk_head}
@@ -16,10 +17,10 @@ use Rattle.frs_writer.specs.Gates.{IsShut, IsAtGate, sealed_chunk}
 use Rattle.frs_writer.specs.Groups.{joined_records, GathersGroup}
 use Rattle.frs_writer.specs.Invariant.{IsCounted, IsAtWork, ShowsFrom, durable_of, IsKept}
 use Rattle.frs_writer.specs.LogImages.{ShowsLog, EndsWithSegment, with_chunk}
-use Rattle.frs_writer.specs.Writer.{WriterView, IsLog, WasEmpty, IsWellOpened}
+use Rattle.frs_writer.specs.Writer.{WriterView, IsLog, WasEmpty}
 use Rattle.frs_writer.specs.Places.{with_chunk_place, with_newest_grown}
 use Rattle.frs_writer.proofs.IsShut.{at_gate}
-use Rattle.frs_writer.proofs.Behind.{Behind, behind, shows_grown, group_images, group_rests, segments_grown}
+use Rattle.frs_writer.proofs.Behind.{Behind, behind, shows_grown, number_is, group_at, group_read, group_images, group_rests, segments_grown}
 use Rattle.frs_writer.proofs.Grouping.{grown_is, next_is}
 use Rattle.frs_writer.proofs.Places.{newest_grown}
 use Rattle.frs_writer.proofs.ShowsLog.{rests_shows}
@@ -167,7 +168,7 @@ module _ {D : Type 0} (g : Ghosts D) (as_read : (disk : D) → IsTrue (g.tells d
     told_before : IsTrue (g.tells d) → IsTrue (g.tells w.disk)
     told_before told = subst IsTrue frame.told told
 
-    pub images_shown : (w' : WriterView D) → w'.opened ≡ w.opened → w'.taker ≡ t → IsTrue (g.tells w.disk) → IsWellOpened g w.opened → (log' : Log) → IsLog g w' log' → IsPlaced log'
+    pub images_shown : (w' : WriterView D) → w'.opened ≡ w.opened → w'.taker ≡ t → IsTrue (g.tells w.disk) → LeavesAlike g w.opened → (log' : Log) → IsLog g w' log' → IsPlaced log'
         → Within g w.disk d (λ c. ShowsFrom (WasEmpty g w.opened) (LeftNoFile g w.opened) w.synced log' (entries c))
     images_shown w' same taker told well log' is_log placed =
         let b = behind g as_read w w' kept group gathered.taken still log' fine told well same (ap (λ (v : TakerView). v.taken) taker ∙ gathered.taken_are) gathered.group_is is_log placed in
@@ -184,6 +185,8 @@ module _ {D : Type 0} (g : Ghosts D) (as_read : (disk : D) → IsTrue (g.tells d
             next_is = log_within (failed_view fault) log' placed refl b;
             each = λ c left. images_shown (failed_view fault) refl refl (told_before told) well log' is_log placed c (counts_now d (g.moment w.disk) c frame.time.later left);
             newest = λ none. absurd (some_none fault none);
+            read = λ none. absurd (some_none fault none);
+            alike = λ none. absurd (some_none fault none);
           };
     }
       where
@@ -195,7 +198,7 @@ module _ {D : Type 0} (g : Ghosts D) (as_read : (disk : D) → IsTrue (g.tells d
       segments_are : with_newest_grown (length group) (length (joined_records group)) w.segments ≡ kept.counted.older ++ with_chunk_place (length group) (length (joined_records group)) newest ∷ []
       segments_are = ap (with_newest_grown (length group) (length (joined_records group))) kept.counted.segments ∙ newest_grown (length group) (length (joined_records group)) kept.counted.older newest
 
-      pub grown_rests : IsTrue (g.tells w.disk) → IsWellOpened g w.opened → (log' : Log) → IsLog g grown_view log' → (placed : IsPlaced log')
+      pub grown_rests : IsTrue (g.tells w.disk) → LeavesAlike g w.opened → (log' : Log) → IsLog g grown_view log' → (placed : IsPlaced log')
           → (b : Behind g as_read w grown_view kept.counted group log')
           × ((c : Image) → g.may_leave d c → EndsWithSegment (WasEmpty g w.opened) (LeftNoFile g w.opened) (entries c) log'.first (durable_of grown_view log').records (with_chunk b.last b.grouped.rs))
       grown_rests told well log' is_log placed =
@@ -204,6 +207,27 @@ module _ {D : Type 0} (g : Ghosts D) (as_read : (disk : D) → IsTrue (g.tells d
             λ c left. subst (λ (l : _). EndsWithSegment (WasEmpty g w.opened) (LeftNoFile g w.opened) (entries c) log'.first l (with_chunk b.last b.grouped.rs)) (sym (grown_is g w grown_view group log' b.grouped placed b.next))
                 (group_rests g as_read w grown_view kept.counted group log' placed b some few gathered.fits (omega (arith, log_within grown_view log' placed refl b, bound))
                 told d (λ x now. counts_now d (g.moment w.disk) x frame.time.later now) frame.elsewhere durable (written told) c left),
+          )
+
+      -- what is read has the segments with the group, and in each image the newest files stand at the same places
+      grown_read : IsTrue (g.tells w.disk) → LeavesAlike g w.opened → (log' : Log) → IsLog g grown_view log' → IsPlaced log'
+          → HasSegments (entries (g.reads d)) (with_newest_grown (length group) (length (joined_records group)) w.segments)
+      grown_read told well log' is_log placed =
+          let (b, rests) = grown_rests told well log' is_log placed in
+          let same : SameElsewhere b.last.number (g.reads w.disk) (g.reads d) = subst (λ (n : ℕ). SameElsewhere n (g.reads w.disk) (g.reads d)) (number_is g as_read w grown_view kept.counted group log' placed b) (frame.others told) in
+          group_read g as_read w grown_view kept.counted group log' placed b (g.reads w.disk) (g.reads d) (as_read w.disk told) same (durable_of grown_view log').records (rests (g.reads d) (as_read d (subst IsTrue (sym frame.told) told)))
+          b.read (with_newest_grown (length group) (length (joined_records group)) w.segments)
+          (segments_grown g as_read w grown_view kept.counted group log' placed b some few gathered.fits (omega (arith, log_within grown_view log' placed refl b, bound)))
+
+      grown_at : IsTrue (g.tells w.disk) → LeavesAlike g w.opened → (log' : Log) → IsLog g grown_view log' → IsPlaced log'
+          → (places : List (ℕ × ℕ)) × ((c : Image) → g.may_leave d c → HasNewestAt places log'.first (entries c))
+      grown_at told well log' is_log placed =
+          let (b, rests) = grown_rests told well log' is_log placed in (
+            b.places,
+            λ c left.
+                let (e, was, same) = frame.elsewhere c (counts_now d (g.moment w.disk) c frame.time.later left) in
+                group_at g as_read w grown_view kept.counted group log' placed b e c was (subst (λ (n : ℕ). SameElsewhere n e c) (number_is g as_read w grown_view kept.counted group log' placed b) same)
+                (durable_of grown_view log').records (rests c left),
           )
 
       pub kept_grown : IsKept g grown_view
@@ -219,5 +243,7 @@ module _ {D : Type 0} (g : Ghosts D) (as_read : (disk : D) → IsTrue (g.tells d
               each = λ c left. shows_grown g as_read w grown_view kept.counted group log' placed b c
                   (subst (λ (l : _). ShowsLog (WasEmpty g w.opened) (LeftNoFile g w.opened) (entries c) log'.first l) (grown_is g w grown_view group log' b.grouped placed b.next) (rests_shows (rests c left)));
               newest = λ none. (with_chunk b.last b.grouped.rs, rests, (b.before, segments_grown g as_read w grown_view kept.counted group log' placed b some few gathered.fits (omega (arith, log_within grown_view log' placed refl b, bound))));
+              read = λ none. grown_read (told_before told) well log' is_log placed;
+              alike = λ none. grown_at (told_before told) well log' is_log placed;
             };
       }

@@ -4,7 +4,7 @@ use Rattle.std.specs.List.{AllZip, last_or, list_all, flat_map}
 use Rattle.std.specs.Ordering.{nat_cmp}
 use Rattle.std.specs.FinMap.Entries.{is_sorted}
 use Rattle.std.proofs.lemmas.Bool.{and_parts, and_from, cases_lt, ne_eqb, eq-eqb, eqb-true, le-leb, leb-true, lt-ltb}
-use Rattle.std.proofs.lemmas.List.{append-nil, drop_all}
+use Rattle.std.proofs.lemmas.List.{append-nil}
 use Rattle.std.proofs.lemmas.Grind.{flat_map-append}
 use Rattle.std.proofs.Math.Seq.{drop-append-add}
 use Rattle.frs_types.specs.declared.record.Record.{Record}
@@ -14,13 +14,15 @@ use Rattle.frs_segment.specs.Order.{IsInOrder}
 use Rattle.frs_segment.specs.Segments.{File, WholeSegment, IsSegment, FileList, records_of, end_of, body, chunk_bytes, chunks_bytes, segment_spelling, is_chunk, are_chunks, open_files, all_records, follow_from, first_alone_reaches, first_of, are_enough, SpellsBy, Spells}
 use Rattle.frs_writer.specs.LogImages.{ShowsLog, EndsWithSegment, TakesNext, file_of, with_chunk, new_segment}
 use Rattle.frs_writer.proofs.TakesNext.{spelled_open, half_shut, open_more, open_as_before, all_open_more, with_open, with_half, takes_more, takes_first, none_looked, none_order}
-use Rattle.frs_types.proofs.Allowed.{lowest_at_most, lowest_behind}
+use Rattle.frs_types.proofs.Allowed.{lowest_behind}
+use Rattle.frs_writer.proofs.IsPlaced.{named_below}
+use Rattle.frs_segment.proofs.SpellsAlike.{none_left}
 use Rattle.frs_segment.proofs.SpellsBy.{all_records-append, enough_reaches, all_allowed}
 use Rattle.frs_writer.proofs.Places.{bytes_more, chunk_end}
 
 -- ---- lists of segments
 
-zip_more : (looked : List File) (segments : List WholeSegment) (f : File) (s : WholeSegment) → AllZip IsSegment looked segments → IsSegment f s → AllZip IsSegment (looked ++ f ∷ []) (segments ++ s ∷ [])
+pub zip_more : (looked : List File) (segments : List WholeSegment) (f : File) (s : WholeSegment) → AllZip IsSegment looked segments → IsSegment f s → AllZip IsSegment (looked ++ f ∷ []) (segments ++ s ∷ [])
 zip_more [] [] f s each is = (is, tt)
 zip_more [] (t ∷ segments) f s each is = absurd each
 zip_more (g ∷ looked) [] f s each is = absurd each
@@ -51,7 +53,7 @@ follow_longer n (t ∷ segments) s rs is =
     let parts = and_parts (nat_eq t.first n) (follow_from (end_of t) (segments ++ s ∷ [])) is in
     and_from _ _ parts.0 (follow_longer (end_of t) segments s rs parts.1)
 
-first_longer : (segments : List WholeSegment) (s : WholeSegment) (rs : List Record) → first_of (segments ++ with_chunk s rs ∷ []) ≡ first_of (segments ++ s ∷ [])
+pub first_longer : (segments : List WholeSegment) (s : WholeSegment) (rs : List Record) → first_of (segments ++ with_chunk s rs ∷ []) ≡ first_of (segments ++ s ∷ [])
 first_longer [] s rs = refl
 first_longer (t ∷ segments) s rs = refl
 
@@ -279,6 +281,19 @@ next (s ∷ segments) earlier records first t follow begins shown is = record {
   begins = begins;
 }
 
+-- the file of a segment without a chunk
+pub empty_made : (n f : ℕ) → 1 ≤ n → n < 2 ^ 62 → 1 ≤ f → f < 2 ^ 62 → IsSegment (n, empty_segment n f) (new_segment n f)
+empty_made n f some below first_some first_below = record {
+  number = refl;
+  gate = 0;
+  rest = [];
+  closed = refl;
+  bytes = refl;
+  chunks = refl;
+  starts = and_from _ _ (and_from _ _ (le-leb 1 n some) (le-leb 1 f first_some)) (lt-ltb f (2 ^ 62) first_below);
+  within = and_from _ _ (le-leb (end_of (new_segment n f)) (2 ^ 62) (omega (arith, first_below))) (lt-ltb n (2 ^ 62) below);
+}
+
 -- a segment without a chunk above the others
 pub shows_next : {alone fresh : Type 0} {image : FileList} {first : ℕ} {records : List Record} → (s : ShowsLog alone fresh image first records) → (n f : ℕ) → (fresh → TakesNext n (first + length records) image s.segments) → f ≡ first + length records → 1 ≤ n → n < 2 ^ 62 → 1 ≤ f → f < 2 ^ 62
     → (c : FileList) → IsTrue (is_sorted nat_cmp c) → c ≡ image ++ (n, empty_segment n f) ∷ [] → EndsWithSegment alone fresh c first records (new_segment n f)
@@ -289,16 +304,7 @@ shows_next {image = image} {first = first} {records = records} s n f takes first
       rising = sorted;
       front = image;
       files = is;
-      made = record {
-        number = refl;
-        gate = 0;
-        rest = [];
-        closed = refl;
-        bytes = refl;
-        chunks = refl;
-        starts = and_from _ _ (and_from _ _ (le-leb 1 n some) (le-leb 1 f first_some)) (lt-ltb f (2 ^ 62) first_below);
-        within = and_from _ _ (le-leb (end_of t) (2 ^ 62) (omega (arith, first_below))) (lt-ltb n (2 ^ 62) below);
-      };
+      made = empty_made n f some below first_some first_below;
       older = s.older;
       looked = s.looked;
       open_ones = s.files;
@@ -313,23 +319,6 @@ shows_next {image = image} {first = first} {records = records} s n f takes first
       fresh_is = λ fresh. subst (λ (m : ℕ). TakesNext n m image s.segments) (sym first_is) (takes fresh);
     }
 
--- ---- what the records of a segment name
-
-abbrev named_lowest_or : Option Record → List Record → ℕ
-named_lowest_or o rs = unwrap_or (option_map (λ (r : Record). r.lowest) (last_or o rs)) 1
-
-newest_lowest : (n : ℕ) (q : Record) (rs : List Record) → q.lowest < n → IsTrue (are_allowed_from n rs) → named_lowest_or (Some q) rs < n + length rs
-newest_lowest n q [] lt all = omega (arith, lt)
-newest_lowest n q (r ∷ rs) lt all =
-    let parts = and_parts (is_allowed n r) (are_allowed_from (n + 1) rs) all in
-    omega (arith, newest_lowest (n + 1) r rs (omega (arith, lowest_at_most n r parts.0)) parts.1)
-
-named_below : (n : ℕ) (rs : List Record) → (rs ≡ [] → ⊥) → IsTrue (are_allowed_from n rs) → named_lowest rs < n + length rs
-named_below n [] some all = absurd (some refl)
-named_below n (r ∷ rs) some all =
-    let parts = and_parts (is_allowed n r) (are_allowed_from (n + 1) rs) all in
-    omega (arith, newest_lowest (n + 1) r rs (omega (arith, lowest_at_most n r parts.0)) parts.1)
-
 -- ---- a log that is spelled is shown
 
 -- what a spelled log's first LSN and its records are to all records of the segments
@@ -341,7 +330,7 @@ record Told (older : FileList) (segments : List WholeSegment) (all : List Record
   lowest : first ≡ named_lowest records
 
 -- the first of the segments begins at or below the lowest
-reaches_from : (lowest : ℕ) (segments : List WholeSegment) → IsTrue (first_alone_reaches lowest segments) → first_of segments ≤ lowest
+pub reaches_from : (lowest : ℕ) (segments : List WholeSegment) → IsTrue (first_alone_reaches lowest segments) → first_of segments ≤ lowest
 reaches_from lowest [] is = absurd cc
 reaches_from lowest (s ∷ segments) is = leb-true s.first lowest (and_parts (nat_le s.first lowest) (list_all (λ (t : WholeSegment). nat_lt lowest t.first) segments) is).0
 
@@ -365,10 +354,6 @@ told_some older segments rs some le lt =
       whole = λ none. absurd (left none);
       lowest = ap named_lowest (sym parts) ∙ lowest_behind (take k rs) (drop k rs) left;
     }
-
-none_left : (k : ℕ) (rs : List Record) → rs ≡ [] → drop k rs ≡ []
-none_left k [] is = drop_all k [] (omega arith)
-none_left k (r ∷ rs) is = absurd cc
 
 told : (older : FileList) (looked : List File) (segments : List WholeSegment) (rs : List Record) → all_records segments ≡ rs → AllZip IsSegment looked segments → IsTrue (follow_from (first_of segments) segments) → IsTrue (are_enough older segments rs)
     → Told older segments rs (named_lowest rs) (drop (named_lowest rs - first_of segments) rs)

@@ -8,22 +8,23 @@ use Rattle.frs_types.specs.declared.record.Record.{Record}
 use Rattle.frs_types.specs.Records.{Log, IsPlaced, next_lsn, are_placed_from, named_lowest}
 use Rattle.frs_disk.specs.declared.disk.Disk.{Ghosts}
 use Rattle.frs_disk.specs.Disk.{Image}
-use Rattle.frs_disk.specs.Frames.{IsSynced, NoneRemovedAbove}
+use Rattle.frs_disk.specs.Frames.{IsSynced, RemovesBelow}
 use Rattle.frs_frame.specs.Spelling.{spelling}
 use Rattle.frs_segment.specs.Segments.{Spells}
-use Rattle.frs_segment.specs.Stores.{log_up_to}
+use Rattle.frs_segment.specs.Stores.{log_up_to, LeavesAlike, HasSegments}
+use Rattle.frs_segment.proofs.SpellsAlike.{spells_alike, none_left}
 use Rattle.frs_segment.specs.declared.layout.Segment.{Segment}
 use Rattle.frs_writer.specs.Gates.{IsAtGate}
 use Rattle.frs_writer.specs.Invariant.{IsAtWork, ShowsFrom, durable_of, ShowsDurable, IsKept}
 use Rattle.frs_writer.specs.Places.{number_of_newest}
-use Rattle.frs_writer.specs.Writer.{WriterView, IsLog, IsWellOpened}
+use Rattle.frs_writer.specs.Writer.{WriterView, IsLog}
 use Rattle.frs_writer.specs.Writing.{SpellsFrom}
 use Rattle.frs_writer.proofs.IsPlaced.{placed_front, first_below}
 use Rattle.frs_writer.proofs.Places.{newest_number}
 use Rattle.frs_writer.proofs.ShowsLog.{spells, base_lowest, rests_shows}
 
 module _ {D : Type 0} (g : Ghosts D) (w : WriterView D) (kept : IsKept g w)
-    (told : IsTrue (g.tells w.disk)) (well : IsWellOpened g w.opened) (log : Log) (is_log : IsLog g w log) (placed : IsPlaced log) where
+    (told : IsTrue (g.tells w.disk)) (well : LeavesAlike g w.opened) (log : Log) (is_log : IsLog g w log) (placed : IsPlaced log) where
   held : ShowsDurable g w log
   held = kept.holds told well log is_log placed
 
@@ -58,19 +59,33 @@ module _ {D : Type 0} (g : Ghosts D) (w : WriterView D) (kept : IsKept g w)
       spells (entries c) log.first (durable_of w log).records (rests_shows (rests c left))
       (begins (w.synced + 1 - log.first) (omega (arith, base_within w.synced kept.counted.first, ap (λ (l : Log). l.first) is_log.is)))
 
+  -- where nothing was cut short each image spells it by the same files
+  pub durable_alike : g.may_leave w.disk (g.reads w.disk) → w.ended ≡ None → LeavesAlike g w.disk
+  durable_alike here fine c left =
+      let (places, at) = held.alike fine in
+      let part : List Record = take (w.synced + 1 - log.first) log.records in
+      spells_alike (entries (g.reads w.disk)) (entries c) (log_up_to w.synced log) places log.first
+      (durable_spells fine (g.reads w.disk) here) (durable_spells fine c left) (at (g.reads w.disk) here) (at c left)
+      (λ some. begins (w.synced + 1 - log.first) (omega (arith, base_within w.synced kept.counted.first, ap (λ (l : Log). l.first) is_log.is))
+      (λ none. some (none_left (named_lowest part - log.first) part none)))
+
+  -- and what is read has the writer's segments
+  pub durable_read : w.ended ≡ None → HasSegments (entries (g.reads w.disk)) w.segments
+  durable_read fine = held.read fine
+
 pub newest_synced : {D : Type 0} (g : Ghosts D) (w : WriterView D) (kept : IsKept g w)
     → w.ended ≡ None → IsTrue (g.tells w.disk) → IsSynced g w.disk (number_of_newest w.segments)
 newest_synced g w kept fine told =
     subst (λ (n : ℕ). IsSynced g w.disk n) (sym (newest_number kept.counted.older kept.counted.newest) ∙ ap number_of_newest (sym kept.counted.segments)) (kept.at_work fine told).durable
 
--- no removal is pending above the newest file
-pub none_pending : {D : Type 0} (g : Ghosts D) (disk : D) (newest : Segment) → IsAtWork g disk newest → NoneRemovedAbove g disk
+-- no removal is pending of the newest file or above it
+pub none_pending : {D : Type 0} (g : Ghosts D) (disk : D) (newest : Segment) → IsAtWork g disk newest → RemovesBelow g disk
 none_pending g disk newest work n pends = (
   newest.number,
   some_there (get (g.reads disk) newest.number) work.gate,
-  elim (cases_lt newest.number n) [
-    | inl lt ↦ absurd (work.none_removed n lt pends)
-    | inr le ↦ le
+  elim (cases_lt n newest.number) [
+    | inl lt ↦ lt
+    | inr le ↦ absurd (work.none_removed n le pends)
   ],
 )
   where

@@ -11,13 +11,14 @@ use Rattle.frs_disk.specs.Frames.{Within, GoesOn, LeftNoFile}
 use Rattle.frs_disk.proofs.Moments.{within_join}
 use Rattle.frs_segment.specs.declared.layout.Segment.{Segment}
 use Rattle.frs_segment.specs.Segments.{Spells}
+use Rattle.frs_segment.specs.Stores.{LeavesAlike}
 use Rattle.frs_slots.specs.Views.{TakerView, IsOneMore, MissedRecord}
 use Rattle.frs_writer.specs.declared.fault.WriteFault.{WriteFault}
 use Rattle.frs_writer.specs.declared.fault.WriteFault.TheVariants.{Disk, Broken, NumberLimit, Memory}
 use Rattle.frs_writer.specs.Groups.{joined_records, lowest_of_last, GathersGroup}
 use Rattle.frs_writer.specs.Invariant.{ShowsFrom}
 use Rattle.frs_writer.specs.Places.{with_newest_grown}
-use Rattle.frs_writer.specs.Writer.{WriterView, IsLog, WasEmpty, IsWellOpened}
+use Rattle.frs_writer.specs.Writer.{WriterView, IsLog, WasEmpty}
 use Rattle.frs_writer.specs.Writing.{is_due, WritesGroup, StopsWrite, IsLeftRefused, HasMadeNext, IsRolled, TakesMore, SpellsFrom, HoldsFrom, LeavesLog, LeavesShown, IsDurable, HasWriteCause, HasPutCause}
 use Rattle.frs_writer.proofs.Parted.{part, placed_less}
 use Rattle.frs_writer.proofs.LongerLog.{with_more, spells_more, shows_more}
@@ -150,12 +151,12 @@ module _ {D : Type 0} (g : Ghosts D) (old mid new : WriterView D) (rolled : IsRo
   joined_leaves earlier first second before shown after = record {
     images = λ told well log is_log placed.
         let l = log_before g mid new takes log is_log in
-        let was = before.images told (subst (λ (o : D). IsWellOpened g o) takes.opened well) l.log l.is_log (placed_less l.log l.more (subst IsPlaced l.log_is placed)) in
+        let was = before.images told (subst (λ (o : D). LeavesAlike g o) takes.opened well) l.log l.is_log (placed_less l.log l.more (subst IsPlaced l.log_is placed)) in
         within_join g old.disk mid.disk new.disk (SpellsFrom old.synced log) first.time second.time (λ c left. spells_more old.synced l.log log l.more c l.log_is (was c left))
         (subst (λ (n : ℕ). Within g mid.disk new.disk (SpellsFrom n log)) synced_mid (after.images (subst IsTrue (sym first.told) told) well log is_log placed));
     whole = λ told well log is_log placed empty.
         let l = log_before g mid new takes log is_log in
-        let was = shown told (subst (λ (o : D). IsWellOpened g o) takes.opened well) l.log l.is_log (placed_less l.log l.more (subst IsPlaced l.log_is placed)) in
+        let was = shown told (subst (λ (o : D). LeavesAlike g o) takes.opened well) l.log l.is_log (placed_less l.log l.more (subst IsPlaced l.log_is placed)) in
         within_join g old.disk mid.disk new.disk (HoldsFrom (LeftNoFile g new.opened) old.synced log) first.time second.time
         (λ c left. from_whole old.synced log c
         (subst (λ (o : D). ShowsFrom (WasEmpty g o) (LeftNoFile g o) old.synced log (entries c)) (sym takes.opened) (shows_more old.synced l.log log l.more (entries c) l.log_is (was c left))) empty)
@@ -165,6 +166,8 @@ module _ {D : Type 0} (g : Ghosts D) (old mid new : WriterView D) (rolled : IsRo
   pub joined_durable : GoesOn g old.disk mid.disk → IsDurable g mid new → IsDurable g old new
   joined_durable first durable = record {
     spelled = λ told. durable.spelled (subst IsTrue (sym first.told) told);
+    alike = λ told. durable.alike (subst IsTrue (sym first.told) told);
+    segments = λ told. durable.segments (subst IsTrue (sym first.told) told);
     newest = λ told. durable.newest (subst IsTrue (sym first.told) told);
     pending = λ told. durable.pending (subst IsTrue (sym first.told) told);
     whole = λ told. durable.whole (subst IsTrue (sym first.told) told);

@@ -11,7 +11,7 @@ use Rattle.frs_types.specs.Records.{Log, next_lsn, named_lowest}
 use Rattle.frs_disk.specs.declared.disk.Disk.{Ghosts}
 use Rattle.frs_disk.specs.declared.disk.Fault.TheVariants.{Failed}
 use Rattle.frs_disk.specs.Disk.{Image}
-use Rattle.frs_disk.specs.Frames.{IsSynced, Within, NoneRemovedAbove, LeftNoFile}
+use Rattle.frs_disk.specs.Frames.{IsSynced, Within, NoneRemovedAbove, RemovesBelow, LeftNoFile}
 use Rattle.frs_disk.proofs.NoFiles.{no_entries}
 use Rattle.frs_frame.specs.Spelling.{spelling}
 use Rattle.frs_segment.specs.Front.{empty_segment}
@@ -19,17 +19,20 @@ use Rattle.frs_segment.specs.declared.layout.Found.{Found}
 use Rattle.frs_segment.specs.declared.layout.Segment.{Segment}
 use Rattle.frs_segment.specs.Segments.{FileList, WholeSegment, Spells}
 use Rattle.frs_segment.specs.Scanning.{places_of_segment}
-use Rattle.frs_segment.specs.Stores.{IsFound, numbers_of}
+use Rattle.frs_segment.specs.Stores.{IsFound, numbers_of, LeavesAlike, HasSegments, HasNewestAt}
+use Rattle.frs_segment.proofs.SpellsAlike.{spells_alike}
 use Rattle.frs_slots.specs.Views.{TakerView, next_taken}
 use Rattle.frs_writer.specs.Invariant.{IsCounted, IsAtWork, ShowsDurable, IsKept}
 use Rattle.frs_writer.specs.Setup.{IsOpening}
 use Rattle.frs_writer.specs.LogImages.{ShowsLog, EndsWithSegment, new_segment}
-use Rattle.frs_writer.specs.Writer.{WriterView, IsLog, WasEmpty, IsWellOpened}
+use Rattle.frs_writer.specs.Writer.{WriterView, IsLog, WasEmpty}
 use Rattle.frs_writer.specs.Writing.{HoldsLog, LeavesFound}
 use Rattle.frs_writer.proofs.IsFound.{found_above, found_none_removed, found_half, found_next}
-use Rattle.frs_writer.proofs.IsOpening.{opening_shows, opening_rests, opening_spells}
+use Rattle.frs_writer.proofs.HasNewest.{read_next}
+use Rattle.frs_writer.proofs.IsOpening.{opening_shows, opening_rests, opening_spells, opening_at, begun_places, still_read}
 use Rattle.frs_writer.proofs.IsRolled.{empty_gate}
-use Rattle.frs_writer.proofs.ShowsLog.{base_lowest, shows_as, rests_as, rests_shows, rests_open}
+use Rattle.frs_writer.proofs.MissesSome.{thin_absent}
+use Rattle.frs_writer.proofs.ShowsLog.{base_lowest, shows_as, rests_as, rests_shows, rests_open, empty_made}
 use Rattle.frs_writer.proofs.SpellsFrom.{none_pending}
 use Rattle.frs_writer.proofs.HoldsLog.{shows_whole, shows_open, spelled_none}
 
@@ -37,7 +40,7 @@ pub none_failed : None ≡ Some Failed → ⊥
 none_failed is = cc
 
 -- what a crash may leave of a disk spells what is read of it
-left_spells : {D : Type 0} (g : Ghosts D) (disk : D) → IsWellOpened g disk
+left_spells : {D : Type 0} (g : Ghosts D) (disk : D) → LeavesAlike g disk
     → (log : Log) → Spells (entries (g.reads disk)) log → (c : Image) → g.may_leave disk c → Spells (entries c) log
 left_spells g disk well log spelled c left =
     let (segments, by) = spelled in
@@ -116,7 +119,7 @@ module _ {D : Type 0} (g : Ghosts D)
     opening : (c : Image) → g.left_since new (g.moment old) c → IsOpening found.half number first (g.may_leave old) c
     opening c left = subst (λ (l : List ℕ). IsOpening l number first (g.may_leave old) c) half_is (images told c left)
 
-    module _ (well : IsWellOpened g old) (c : Image) (left : g.left_since new (g.moment old) c) where
+    module _ (well : LeavesAlike g old) (c : Image) (left : g.left_since new (g.moment old) c) where
       -- the first file has the number 1
       at_one : LeftNoFile g old → number ≡ 1
       at_one none =
@@ -136,13 +139,13 @@ module _ {D : Type 0} (g : Ghosts D)
       begun_rests made = rests_as empty_then none_when (opening_rests (g.reads old) segments base found is (g.may_leave old) well number first next (omega arith) within low high none_there c (opening c left) (LeftNoFile g old) none_before at_one made)
 
   -- each image spells what was read at the start
-  images_spell : IsTrue (g.tells old) → IsWellOpened g old → (log : Log) → Spells (entries (g.reads old)) log → Within g old new (λ c. Spells (entries c) log)
+  images_spell : IsTrue (g.tells old) → LeavesAlike g old → (log : Log) → Spells (entries (g.reads old)) log → Within g old new (λ c. Spells (entries c) log)
   images_spell told well log spelled c left =
       let (segments, base, is) = found_is told in
       subst (Spells (entries c)) (sym (found_log told segments base is log spelled)) (begun_spells told segments base is well c left)
 
   -- where that was nothing, it has no record
-  images_whole : IsTrue (g.tells old) → IsWellOpened g old → WasEmpty g old → Within g old new (λ c. HoldsLog (LeftNoFile g old) 1 (entries c) [])
+  images_whole : IsTrue (g.tells old) → LeavesAlike g old → WasEmpty g old → Within g old new (λ c. HoldsLog (LeftNoFile g old) 1 (entries c) [])
   images_whole told well was c left =
       let (segments, base, is) = found_is told in
       let none : Log = record { first = 1; records = [] } in
@@ -158,7 +161,8 @@ module _ {D : Type 0} (g : Ghosts D)
       (later : g.moment old ≤ g.moment new) (told_same : g.tells new ≡ g.tells old) (durable : IsSynced g new number)
       (made : IsTrue (g.tells old) → get (g.reads new) number ≡ Some (empty_segment number first))
       (others : IsTrue (g.tells old) → (q : ℕ) → number < q → get (g.reads old) q ≡ None → get (g.reads new) q ≡ None)
-      (pending : (q : ℕ) → g.removing new q → g.removing old q ⊎ Contains half q) where
+      (pending : (q : ℕ) → g.removing new q → g.removing old q ⊎ Contains half q)
+      (read : IsTrue (g.tells old) → IsOpening half number first (λ c. c ≡ g.reads old) (g.reads new)) where
     abbrev next_segment : Segment
     next_segment = places_of_segment (new_segment number first)
 
@@ -205,7 +209,18 @@ module _ {D : Type 0} (g : Ghosts D)
               (pending q pends);
         }
 
-    module _ (told : IsTrue (g.tells old)) (well : IsWellOpened g old) (segments : List WholeSegment) (base : Log) (is : IsFound (entries (g.reads old)) segments base found) where
+    -- what is read has the segments that were found, and the next one
+    begun_read : IsTrue (g.tells old) → HasSegments (entries (g.reads new)) (found.segments ++ next_segment ∷ [])
+    begun_read told =
+        let (segments, base, is) = found_is told in
+        let opening : IsOpening found.half number first (λ (c : Image). c ≡ g.reads old) (g.reads new) = subst (λ (l : List ℕ). IsOpening l number first (λ (c : Image). c ≡ g.reads old) (g.reads new)) half_is (read told) in
+        read_next number first opening.thinned (g.reads new) opening.elsewhere
+        (λ q at. thin_absent found.half opening.base opening.thinned opening.by q
+        (subst (λ (x : Image). get x q ≡ None) (sym opening.was) (found_above (g.reads old) segments base found is q (omega (arith, at)))))
+        (empty_made number first (omega arith) within low high) (made told) found.segments
+        (still_read (g.reads old) opening.base opening.thinned segments base found is opening.by ⊥ (λ none. absurd none) opening.was)
+
+    module _ (told : IsTrue (g.tells old)) (well : LeavesAlike g old) (segments : List WholeSegment) (base : Log) (is : IsFound (entries (g.reads old)) segments base found) where
       all_durable : take (first - 1 + 1 - base.first) base.records ≡ base.records
       all_durable = take_all (first - 1 + 1 - base.first) base.records (omega (arith, low, next, is.next_is))
 
@@ -214,6 +229,19 @@ module _ {D : Type 0} (g : Ghosts D)
 
       since : (c : Image) → g.may_leave new c → g.left_since new (g.moment old) c
       since c left = counts_now new (g.moment old) c later left
+
+      -- in each image the newest files stand at the same places
+      begun_at : (c : Image) → g.may_leave new c → HasNewestAt (begun_places base.records segments number first) base.first (entries c)
+      begun_at c left =
+          opening_at (g.reads old) segments base found is (g.may_leave old) well number first next (omega arith) within low high (none_there told segments base is) c (opening told segments base is c (since c left))
+          (LeftNoFile g old) (none_before told segments base is well c (since c left)) (at_one told segments base is well c (since c left)) (durable c left ∙ made told)
+
+      begun_alike : IsTrue (g.tells new) → LeavesAlike g new
+      begun_alike told_now c left =
+          let here = as_read new told_now in
+          spells_alike (entries (g.reads new)) (entries c) base (begun_places base.records segments number first) base.first
+          (begun_spells told segments base is well (g.reads new) (since (g.reads new) here)) (begun_spells told segments base is well c (since c left))
+          (begun_at (g.reads new) here) (begun_at c left) (λ some. omega arith)
 
       begun_holds : ShowsDurable g begun base
       begun_holds = record {
@@ -230,17 +258,30 @@ module _ {D : Type 0} (g : Ghosts D)
               (begun_rests told segments base is well c (since c left) (durable c left ∙ made told))),
           (segments, ap (λ (l : List Segment). l ++ next_segment ∷ []) is.segments_are ∙ sym (map-append places_of_segment segments (new_segment number first ∷ []))),
         );
+        read = λ fine. begun_read told;
+        alike = λ fine. (begun_places base.records segments number first, begun_at);
       }
 
       log_is : (log : Log) → IsLog g begun log → log ≡ base
       log_is log l =
           base_is l.base log l.taken (none_taken taker.taken l.taken begins.0 l.bytes) l.is ∙ found_log told segments base is l.base l.spelled
 
-    pub none_pends : IsTrue (g.tells old) → NoneRemovedAbove g new
+    pub none_pends : IsTrue (g.tells old) → RemovesBelow g new
     none_pends told = none_pending g new next_segment (begun_at_work told)
 
+    -- what is read has these segments, where they are those that were found and the next one
+    pub found_read : (now : List Segment) → now ≡ found.segments ++ places_of_segment (new_segment number found.next) ∷ [] → IsTrue (g.tells old) → HasSegments (entries (g.reads new)) now
+    found_read now is told =
+        subst (HasSegments (entries (g.reads new))) (sym (is ∙ ap (λ (n : ℕ). found.segments ++ places_of_segment (new_segment number n) ∷ []) (sym next))) (begun_read told)
+
+    -- and the disk spells alike, where it did before
+    pub alike_still : IsTrue (g.tells old) → LeavesAlike g old → LeavesAlike g new
+    alike_still told well =
+        let (segments, base, is) = found_is told in
+        begun_alike told well segments base is (subst IsTrue (sym told_same) told)
+
     -- and afterwards, where that was nothing
-    pub durable_none : IsTrue (g.tells old) → IsWellOpened g old → WasEmpty g old → (c : Image) → g.may_leave new c → HoldsLog (LeftNoFile g old) 0 (entries c) []
+    pub durable_none : IsTrue (g.tells old) → LeavesAlike g old → WasEmpty g old → (c : Image) → g.may_leave new c → HoldsLog (LeftNoFile g old) 0 (entries c) []
     durable_none told well was c left =
         let (segments, base, is) = found_is told in
         let none : Log = record { first = 1; records = [] } in

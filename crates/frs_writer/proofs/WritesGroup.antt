@@ -11,6 +11,7 @@ use Rattle.frs_disk.specs.Disk.{Image, Rose, HasCause, bytes_at}
 use Rattle.frs_disk.specs.Frames.{Within, LeftNoFile}
 use Rattle.frs_segment.specs.declared.layout.Segment.{Segment}
 use Rattle.frs_segment.specs.Segments.{Spells}
+use Rattle.frs_segment.specs.Stores.{LeavesAlike}
 use Rattle.frs_slots.specs.Views.{TakerView, MissedRecord}
 use Rattle.frs_writer.specs.Gates.{IsShut, sealed_chunk}
 use Rattle.frs_writer.specs.Groups.{joined_records, lowest_of_last, GathersGroup, PutsGroup}
@@ -18,7 +19,7 @@ use Rattle.frs_writer.specs.Invariant.{ShowsFrom, IsKept}
 use Rattle.frs_segment.specs.Scanning.{places_of_segment}
 use Rattle.frs_writer.specs.Places.{with_chunk_place, with_newest_grown, length_of_newest, number_of_newest}
 use Rattle.frs_writer.specs.LogImages.{new_segment}
-use Rattle.frs_writer.specs.Writer.{WriterView, IsLog, WasEmpty, IsWellOpened}
+use Rattle.frs_writer.specs.Writer.{WriterView, IsLog, WasEmpty}
 use Rattle.frs_writer.specs.Writing.{is_due, segments_after_roll, WritesGroup, StopsWrite}
 use Rattle.frs_writer.proofs.GathersGroup.{nothing_gathered, nothing_missed}
 use Rattle.frs_writer.proofs.PutsGroup.{kept_grown, kept_failed, images_shown, group_within_lsns}
@@ -110,7 +111,7 @@ module _ {D : Type 0} (g : Ghosts D) (as_read : (disk : D) → IsTrue (g.tells d
         subst (λ (x : Option Fault). IsKept g (view low segments (w.synced + count) x)) fine h
   ])
 
-  pub put_images : (w' : WriterView D) → w'.opened ≡ w.opened → w'.taker ≡ t → IsTrue (g.tells w.disk) → IsWellOpened g w.opened → (log' : Log) → IsLog g w' log' → IsPlaced log'
+  pub put_images : (w' : WriterView D) → w'.opened ≡ w.opened → w'.taker ≡ t → IsTrue (g.tells w.disk) → LeavesAlike g w.opened → (log' : Log) → IsLog g w' log' → IsPlaced log'
       → Within g w.disk d (λ c. ShowsFrom (WasEmpty g w.opened) (LeftNoFile g w.opened) w.synced log' (entries c))
   put_images w' same taker told well log' is_log placed = elim (cases_lt 0 (length group)) [
     | inl lt ↦

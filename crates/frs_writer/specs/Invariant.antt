@@ -10,12 +10,13 @@ use Rattle.frs_disk.specs.Frames.{IsSynced, LeftNoFile}
 use Rattle.frs_types.specs.declared.limits.TheConstants.{CLIENT_LIMIT, NUMBER_LIMIT}
 use Rattle.frs_segment.specs.declared.layout.Segment.{Segment}
 use Rattle.frs_segment.specs.Segments.{FileList, WholeSegment}
+use Rattle.frs_segment.specs.Stores.{LeavesAlike, HasSegments, HasNewestAt}
 use Rattle.frs_segment.specs.Scanning.{places_of_segment}
 use Rattle.frs_slots.specs.Views.{next_taken}
 use Rattle.frs_writer.specs.Gates.{IsAtGate}
 use Rattle.frs_writer.specs.Places.{HasLength}
 use Rattle.frs_writer.specs.LogImages.{ShowsLog, EndsWithSegment}
-use Rattle.frs_writer.specs.Writer.{WriterView, IsLog, WasEmpty, IsWellOpened}
+use Rattle.frs_writer.specs.Writer.{WriterView, IsLog, WasEmpty}
 
 -- ---- numbers
 
@@ -43,12 +44,13 @@ pub record IsCounted {D : Type 0} (w : WriterView D) : Type 0 where
 
 -- ---- the disk
 
--- The newest file ends in its closed gate and is durable, and no file stands above it or comes back there.
+-- The newest file ends in its closed gate and is durable, and no file stands above it. Neither it nor one above it was
+-- removed.
 pub record IsAtWork {D : Type 0} (g : Ghosts D) (disk : D) (newest : Segment) : Type 0 where
   pub gate : IsAtGate (newest.length - 1) (get (g.reads disk) newest.number)
   pub durable : IsSynced g disk newest.number
   pub none_above : (q : ℕ) → newest.number < q → get (g.reads disk) q ≡ None
-  pub none_removed : (q : ℕ) → newest.number < q → g.removing disk q → ⊥
+  pub none_removed : (q : ℕ) → newest.number ≤ q → g.removing disk q → ⊥
 
 -- ---- the log
 
@@ -62,8 +64,9 @@ abbrev pub durable_of : {D : Type 0} → WriterView D → Log → Log
 durable_of w log = record log { records = take (w.synced + 1 - log.first) log.records }
 
 -- Each image that a crash may leave shows what is durable. While nothing was cut short it shows that and nothing more,
--- the newest file is the same in all of them, and the writer's segments are those that are read. The log stands alone
--- where it was empty at the opening.
+-- and the newest file is the same in all of them; the writer's segments are the newest files that are read; and from
+-- the log's first LSN on the files have the same numbers and first LSNs in all images. The log stands alone where it
+-- was empty at the opening.
 pub record ShowsDurable {D : Type 0} (g : Ghosts D) (w : WriterView D) (log : Log) : Type 0 where
   pub next_is : next_lsn log ≡ next_taken w.taker
   pub each : (c : Image) → g.may_leave w.disk c
@@ -73,6 +76,9 @@ pub record ShowsDurable {D : Type 0} (g : Ghosts D) (w : WriterView D) (log : Lo
       → EndsWithSegment (WasEmpty g w.opened) (LeftNoFile g w.opened) (entries c) log.first
       (durable_of w log).records last)
       × ((before : List WholeSegment) × (w.segments ≡ map places_of_segment (before ++ last ∷ [])))
+  pub read : w.ended ≡ None → HasSegments (entries (g.reads w.disk)) w.segments
+  pub alike : w.ended ≡ None → (places : List (ℕ × ℕ))
+      × ((c : Image) → g.may_leave w.disk c → HasNewestAt places log.first (entries c))
 
 -- ---- all of it
 
@@ -80,5 +86,5 @@ pub record IsKept {D : Type 0} (g : Ghosts D) (w : WriterView D) : Type 0 where
   pub counted : IsCounted w
   pub told : g.tells w.disk ≡ g.tells w.opened
   pub at_work : w.ended ≡ None → IsTrue (g.tells w.disk) → IsAtWork g w.disk counted.newest
-  pub holds : IsTrue (g.tells w.disk) → IsWellOpened g w.opened → (log : Log) → IsLog g w log → IsPlaced log
+  pub holds : IsTrue (g.tells w.disk) → LeavesAlike g w.opened → (log : Log) → IsLog g w log → IsPlaced log
       → ShowsDurable g w log

@@ -5,11 +5,9 @@ use Rattle.frs_types.specs.declared.record.Record.{Record}
 use Rattle.frs_types.specs.Records.{Log}
 use Rattle.frs_disk.specs.declared.disk.Disk.{Ghosts}
 use Rattle.frs_disk.specs.declared.disk.Fault.{Fault}
-use Rattle.frs_disk.specs.Disk.{Image}
 use Rattle.frs_frame.specs.Spelling.{spelling}
 use Rattle.frs_segment.specs.declared.layout.Segment.{Segment}
 use Rattle.frs_segment.specs.Segments.{Spells}
-use Rattle.frs_segment.specs.Stores.{SpellsAlike}
 use Rattle.frs_slots.specs.Views.{TakerView}
 
 pub record WriterView (D : Type 0) : Type 0 where
@@ -38,7 +36,3 @@ pub record IsLog {D : Type 0} (g : Ghosts D) (w : WriterView D) (log : Log) : Ty
 -- the log was empty at the opening
 abbrev pub WasEmpty : {D : Type 0} → Ghosts D → D → Type 0
 WasEmpty g opened = Spells (entries (g.reads opened)) (record { first = 1; records = [] })
-
--- each image that a crash could leave at the opening said what was read
-abbrev pub IsWellOpened : {D : Type 0} → Ghosts D → D → Type 0
-IsWellOpened g opened = (c : Image) → g.may_leave opened c → SpellsAlike (entries (g.reads opened)) (entries c)

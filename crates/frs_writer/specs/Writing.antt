@@ -10,7 +10,7 @@ use Rattle.frs_disk.specs.declared.disk.Disk.{Ghosts}
 use Rattle.frs_disk.specs.declared.disk.Fault.{Fault}
 use Rattle.frs_disk.specs.declared.disk.Fault.TheVariants as fault
 use Rattle.frs_disk.specs.Disk.{Image, Rose}
-use Rattle.frs_disk.specs.Frames.{IsSynced, IsThere, LeftNoFile, NoneRemovedAbove, Within}
+use Rattle.frs_disk.specs.Frames.{IsSynced, IsThere, LeftNoFile, RemovesBelow, Within}
 use Rattle.frs_types.specs.declared.limits.TheConstants.{NUMBER_LIMIT}
 use Rattle.frs_segment.specs.declared.format.TheConstants.{FILE_LIMIT}
 use Rattle.frs_segment.specs.declared.layout.Segment.{Segment}
@@ -18,7 +18,7 @@ use Rattle.frs_segment.specs.Segments.{WholeSegment, IsSegment, Spells, open_fil
 use Rattle.frs_segment.specs.Segments.{FileList}
 use Rattle.frs_segment.specs.Scanning.{places_of_segment}
 use Rattle.frs_segment.specs.Order.{IsInOrder}
-use Rattle.frs_segment.specs.Stores.{log_up_to}
+use Rattle.frs_segment.specs.Stores.{log_up_to, LeavesAlike, HasSegments}
 use Rattle.frs_slots.specs.Views.{IsOneMore, MissedRecord}
 use Rattle.frs_writer.specs.declared.fault.Refused.{Refused}
 use Rattle.frs_writer.specs.declared.fault.WriteFault.{WriteFault}
@@ -28,7 +28,7 @@ use Rattle.frs_writer.specs.Places.{number_of_newest, length_of_newest, with_new
 use Rattle.frs_writer.specs.Invariant.{ShowsFrom}
 use Rattle.frs_writer.specs.LogImages.{new_segment}
 use Rattle.frs_writer.specs.Setup.{OpensNext}
-use Rattle.frs_writer.specs.Writer.{WriterView, IsLog, WasEmpty, IsWellOpened}
+use Rattle.frs_writer.specs.Writer.{WriterView, IsLog, WasEmpty}
 
 -- ---- segments
 
@@ -182,7 +182,7 @@ HoldsFrom fresh synced log c = (n : ℕ) × (synced ≤ n) × (n < next_lsn log)
 
 -- Where the writer was well opened and its log is placed, each image has this.
 abbrev pub OfPlacedLog : {D : Type 0} → Ghosts D → WriterView D → (Log → Type 0) → Type 0
-OfPlacedLog g w P = IsWellOpened g w.opened → (log : Log) → IsLog g w log → IsPlaced log → P log
+OfPlacedLog g w P = LeavesAlike g w.opened → (log : Log) → IsLog g w log → IsPlaced log → P log
 
 -- What a crash since the start leaves of the log. Each image spells it up to a record that isn't before the last one
 -- durable at the start. Where the log was empty at the opening, all open files are its segments, from LSN 1 on; where
@@ -199,14 +199,18 @@ LeavesShown g old new = IsTrue (g.tells old.disk) → OfPlacedLog g new (λ log.
     Within g old.disk new.disk
     (λ c. ShowsFrom (WasEmpty g new.opened) (LeftNoFile g new.opened) old.synced log (entries c)))
 
--- What a crash leaves once a group was written. Each image spells the log up to the last durable record, and has the
--- newest file as it is read; no removal is pending above the files that are there. Where the log was empty at the
--- opening its files are the log's, and where there was no file then, none is half-made.
+-- What stands once a group was written. Each image that a crash leaves spells the log up to the last durable record,
+-- by the same files with the same first LSNs, and has the newest file as it is read. The newest open files are the
+-- writer's segments, chunk by chunk; a file whose removal is pending stands below one that is there. Where the log was
+-- empty at the opening its files are the log's, and where there was no file then, none is half-made.
 pub record IsDurable {D : Type 0} (g : Ghosts D) (old new : WriterView D) : Type 0 where
   pub spelled : IsTrue (g.tells old.disk) → OfPlacedLog g new (λ log.
       (c : Image) → g.may_leave new.disk c → Spells (entries c) (log_up_to new.synced log))
+  pub alike : IsTrue (g.tells old.disk) → OfPlacedLog g new (λ log. LeavesAlike g new.disk)
+  pub segments : IsTrue (g.tells old.disk) → OfPlacedLog g new (λ log.
+      HasSegments (entries (g.reads new.disk)) new.segments)
   pub newest : IsTrue (g.tells old.disk) → IsSynced g new.disk (number_of_newest new.segments)
-  pub pending : IsTrue (g.tells old.disk) → NoneRemovedAbove g new.disk
+  pub pending : IsTrue (g.tells old.disk) → RemovesBelow g new.disk
   pub whole : IsTrue (g.tells old.disk) → OfPlacedLog g new (λ log. WasEmpty g new.opened
       → (c : Image) → g.may_leave new.disk c
       → HoldsLog (LeftNoFile g new.opened) 0 (entries c) (take new.synced log.records))
@@ -216,18 +220,21 @@ pub record IsDurable {D : Type 0} (g : Ghosts D) (old new : WriterView D) : Type
 -- What a crash since the start leaves while a writer is opened. Each image spells what was read at the start. Where
 -- this was nothing, all open files are segments without a record; where there was no file, there is at most one.
 pub record LeavesFound {D : Type 0} (g : Ghosts D) (old new : D) : Type 0 where
-  pub images : IsTrue (g.tells old) → IsWellOpened g old → (log : Log) → Spells (entries (g.reads old)) log
+  pub images : IsTrue (g.tells old) → LeavesAlike g old → (log : Log) → Spells (entries (g.reads old)) log
       → Within g old new (λ c. Spells (entries c) log)
-  pub whole : IsTrue (g.tells old) → IsWellOpened g old → WasEmpty g old
+  pub whole : IsTrue (g.tells old) → LeavesAlike g old → WasEmpty g old
       → Within g old new (λ c. HoldsLog (LeftNoFile g old) 1 (entries c) [])
 
 -- What is there once it is open. The half-made files are gone, the next segment is made, and all else is read as
--- before. A crash leaves the newest file as it is read, and no removal is pending above the files that are there; and
--- where there was no file, none is half-made.
+-- before, so the newest open files are these segments. A crash leaves the newest file as it is read, and where it would
+-- have left at the start what spells alike, it does so now. A file whose removal is pending stands below one that is
+-- there. Where there was no file, none is half-made.
 pub record IsDurableAtOpening {D : Type 0} (g : Ghosts D) (old new : D) (half : List ℕ) (number first : ℕ)
-    : Type 0 where
+    (segments : List Segment) : Type 0 where
   pub reads : IsTrue (g.tells old) → OpensNext half number first (g.reads old) (g.reads new)
+  pub found : IsTrue (g.tells old) → HasSegments (entries (g.reads new)) segments
   pub newest : IsTrue (g.tells old) → IsSynced g new number
-  pub pending : IsTrue (g.tells old) → NoneRemovedAbove g new
-  pub whole : IsTrue (g.tells old) → IsWellOpened g old → WasEmpty g old
+  pub alike : IsTrue (g.tells old) → LeavesAlike g old → LeavesAlike g new
+  pub pending : IsTrue (g.tells old) → RemovesBelow g new
+  pub whole : IsTrue (g.tells old) → LeavesAlike g old → WasEmpty g old
       → (c : Image) → g.may_leave new c → HoldsLog (LeftNoFile g old) 0 (entries c) []

@@ -132,6 +132,8 @@ pub(crate) fn open_next<D: Disk>(
         → Within D.Disk disk.old disk.new (IsOpening half.now number first (D.may_leave disk.old)) }
     ensures made { OnOk result (IsTrue (D.tells disk.old)
         → OpensNext half.now number first (D.reads disk.old) (D.reads disk.new)) }
+    ensures read { OnOk result (IsTrue (D.tells disk.old)
+        → IsOpening half.now number first (λ c. c ≡ D.reads disk.old) (D.reads disk.new)) }
     ensures durable { OnOk result (IsSynced D.Disk disk.new number) }
     ensures others { IsTrue (D.tells disk.old) → (q : ℕ) → number < q
         → get (D.reads disk.old) q ≡ None → get (D.reads disk.new) q ≡ None }

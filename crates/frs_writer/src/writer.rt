@@ -3,15 +3,15 @@ ghost use Rattle.std.specs.Prelude.{◌≡◌, ◌≢◌, ◌↔◌, ◌+◌, �
 ghost use Rattle.std.specs.FinMap.{entries};
 ghost use mathlib.Core.List.{IsPrefix};
 ghost use Rattle.frs_types.specs.Records.{Log};
-ghost use Rattle.frs_disk.specs.Frames.{GoesOn, NoneRemovedAbove};
+ghost use Rattle.frs_disk.specs.Frames.{GoesOn, NoneRemovedAbove, RemovesBelow};
 ghost use Rattle.frs_segment.specs.Segments.{WholeSegment, Spells};
-ghost use Rattle.frs_segment.specs.Stores.{IsFound, log_up_to};
+ghost use Rattle.frs_segment.specs.Stores.{IsFound, LeavesAlike};
 ghost use Rattle.frs_segment.specs.Scanning.{places_of_segment};
 ghost use Rattle.frs_slots.specs.Views.{AreOfOneRing, IsTakenUp, HasRoom};
 ghost use Rattle.frs_writer.specs.declared.fault.WriteFault.TheVariants.{NumberLimit};
 ghost use Rattle.frs_writer.specs.Places.{number_of_newest, chunks_of_newest};
 ghost use Rattle.frs_writer.specs.LogImages.{new_segment};
-ghost use Rattle.frs_writer.specs.Writing.{is_due, IsRolled, WritesGroup, TakesMore, StopsWrite, IsLeftRefused, LeavesFound, IsDurableAtOpening, LeavesLog, LeavesShown, IsDurable, HasOpeningCause, HasWriteCause, HasPutCause};
+ghost use Rattle.frs_writer.specs.Writing.{is_due, IsRolled, WritesGroup, TakesMore, StopsWrite, IsLeftRefused, OfPlacedLog, LeavesFound, IsDurableAtOpening, LeavesLog, LeavesShown, IsDurable, HasOpeningCause, HasWriteCause, HasPutCause};
 
 use crate::chunk::Chunk;
 use crate::fault::{NotYet, Refused, WriteFault};
@@ -98,7 +98,7 @@ impl<D: Disk> Writer<D> {
             × IfErr result (λ e. LeavesFound D.Disk disk e.disk) }
         ensures durable { IfOk result
             (λ w. IsDurableAtOpening D.Disk disk w.disk found.now.half (found.now.greatest + 1)
-            found.now.next) }
+            found.now.next w.segments) }
 
         ensures frame { (IfOk result (λ w. GoesOn D.Disk disk w.disk))
             × IfErr result (λ e. GoesOn D.Disk disk e.disk) }
@@ -202,12 +202,15 @@ impl<D: Disk> Writer<D> {
         end.renew(alloc, &mut self.taker)
     }
 
-    /// Gives the disk back, as it is. Where nothing was cut short no removal is pending on it above the files that are
-    /// there, so a writer may be opened on it again.
+    /// Gives the disk back, as it is. Where nothing was cut short each image that a crash may leave spells the log by
+    /// the same files, and a file whose removal is pending stands below one that is there: a writer may be opened on it
+    /// again.
     pub fn into_disk(self) -> D
         ensures disk { result ≡ self.disk }
+        ensures alike { self.ended ≡ None → IsTrue (D.tells result)
+            → OfPlacedLog D.Disk self (λ log. LeavesAlike D.Disk result) }
         ensures pending { self.ended ≡ None → IsTrue (D.tells result)
-            → NoneRemovedAbove D.Disk result }
+            → RemovesBelow D.Disk result }
     {
         let Writer { disk, .. } = self;
         disk
@@ -263,10 +266,11 @@ impl<D: Disk> Writer<D> {
     /// Fewer than the limit that all fit come only where the ring was asked for one more in this call and hadn't it,
     /// and so does 0. Where the newest segment has reached 1 MiB it goes on to a new one first.
     ///
-    /// Once it answers Ok every record that it counts is durable. Where it is refused with `Disk`, or with `Memory`
-    /// while it wrote, records may be durable or not, and the writer writes no more. Where the log was empty at the
-    /// opening, all open files that a crash may leave are its segments, from LSN 1 on; where there was no file, their
-    /// numbers are those from 1 on, at most the newest is half-made, and each but the newest has a record.
+    /// Once it answers Ok every record that it counts is durable, the newest open files are its segments, chunk by
+    /// chunk, and all images that a crash may leave spell the log by the same files. Where it is refused with `Disk`,
+    /// or with `Memory` while it wrote, records may be durable or not, and the writer writes no more. Where the log was
+    /// empty at the opening, all open files that a crash may leave are its segments, from LSN 1 on; where there was no
+    /// file, their numbers are those from 1 on, at most the newest is half-made, and each but the newest has a record.
     pub fn write_group(&mut self, alloc: Global, limit: u32) -> Result<u32, WriteFault>
         requires { (1 ≤ limit) × (limit ≤ MOST_RECORDS) }
 

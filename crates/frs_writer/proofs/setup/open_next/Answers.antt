@@ -1,8 +1,9 @@
-use Rattle.std.proofs.Common.{◌∙◌, ⊎_elim, IsTrue, sym, subst, arith}
+use Rattle.std.proofs.Common.{◌≡◌, inr, refl, ◌∙◌, ⊎_elim, IsTrue, sym, subst, arith}
 use Rattle.std.proofs.lemmas.Result.{on_ok_weaker}
 use Rattle.frs_disk.specs.Disk.{Image}
 use Rattle.frs_disk.proofs.Frames.{goes_on_join, changes_go_on}
 use Rattle.frs_disk.proofs.Moments.{within_join}
+use Rattle.frs_segment.specs.Front.{IsInTheMaking}
 use Rattle.frs_writer.specs.Setup.{IsOpening}
 use Rattle.frs_writer.proofs.MissesSome.{opening_thinned, opening_made}
 use Rattle.frs_writer.proofs.setup.open_next.Goals as goal
@@ -43,4 +44,14 @@ returns-clause-made g c =
       others = λ q other stays.
           c.open_segment.ensures.frame.others mid q other ∙ ⊎_elim (λ same. same) (λ gone. absurd (stays gone.0)) (c.remove_all.ensures.removed told q);
     })
+    c.open_segment.ensures.made
+
+pub returns-clause-read : goal.returns-clause-read
+returns-clause-read g c =
+    on_ok_weaker c.open_segment.result (λ made told.
+    let d = g.D.Disk in
+    let mid : IsTrue (d.tells c.remove_all.new.disk) = subst IsTrue (sym c.remove_all.ensures.frame.told) told in
+    opening_made c.args.half.now c.args.number c.args.first (λ x. x ≡ d.reads c.args.disk.now) (d.reads c.remove_all.new.disk) (d.reads c.open_segment.new.disk)
+    (d.reads c.args.disk.now, refl, c.remove_all.ensures.removed told) (c.open_segment.ensures.frame.others mid)
+    (subst (IsInTheMaking c.args.number c.args.first) (sym (made mid)) (inr refl)))
     c.open_segment.ensures.made

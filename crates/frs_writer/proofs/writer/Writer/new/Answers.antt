@@ -3,7 +3,7 @@ use Rattle.std.specs.Prelude.{All}
 use Rattle.std.specs.List.Sorted.{IsStrictlyIncreasing}
 use Rattle.std.specs.FinMap.{get}
 use Rattle.frs_writer.specs.Setup.{OpensNext}
-use Rattle.frs_writer.proofs.WriterNew.{none_pends, unchanged_found, opening_found, kept_begun, durable_none, none_failed}
+use Rattle.frs_writer.proofs.WriterNew.{none_pends, found_read, alike_still, unchanged_found, opening_found, kept_begun, durable_none, none_failed}
 use Rattle.frs_writer.proofs.IsFound.{found_half, found_rising, found_above, found_none_removed}
 use Rattle.frs_writer.proofs.writer.Writer.new.Goals as goal
 
@@ -51,7 +51,7 @@ invariant_of-result g c =
           c.args.disk c.open_next.new.disk c.args.found.now c.requires.found c.requires.pending c.requires.greatest c.if-number-eq-NUMBER_LIMIT.false c.items.result.now c.items.ensures
           c.args.taker c.requires.taker c.next-first.result c.next-first.ensures.next c.next-first.ensures.first c.open_next.ensures.images
           c.args.clients c.requires.clients c.in-Ok.buffers.pins.items c.in-Ok.buffers.older.items c.args.found.now.named c.open_next.ensures.frame.time.later c.open_next.ensures.frame.told c.in_default-open_next.ensures.durable (λ told. (c.in_default-open_next.ensures.made told).made)
-          c.open_next.ensures.others c.open_next.ensures.pending c.of-opened.result.value buffers.segments.items buffers.noted.items opened (c.in-Ok.ensures.0, c.in-Ok.ensures.1);
+          c.open_next.ensures.others c.open_next.ensures.pending c.in_default-open_next.ensures.read c.of-opened.result.value buffers.segments.items buffers.noted.items opened (c.in-Ok.ensures.0, c.in-Ok.ensures.1);
       count = c.count-count_at_opening.ensures ∙ ap d.faults (sym opened);
       later = omega (arith, ap d.faults opened, c.in_default-open_next.ensures.cause);
       broken = λ failed. absurd (none_failed failed);
@@ -71,15 +71,26 @@ returns-clause-durable g c = record {
       let next : c.next-first.result ≡ c.args.found.now.next = omega (arith, c.next-first.ensures.next, c.requires.taker.1, ap length c.requires.taker.0) in
       subst (λ (n : ℕ). OpensNext c.args.found.now.half (c.args.found.now.greatest + 1) n (g.D.Disk.reads c.args.disk) (g.D.Disk.reads c.open_next.new.disk)) next
       (subst (λ (half : List ℕ). OpensNext half (c.args.found.now.greatest + 1) c.next-first.result (g.D.Disk.reads c.args.disk) (g.D.Disk.reads c.open_next.new.disk)) c.items.ensures (c.in_default-open_next.ensures.made told));
+  found = found_read g.D.Disk g.met.D.Disk.as_read g.met.D.Disk.counts_now g.met.D.Disk.stays_absent c.one_log.ensures.log
+      c.args.disk c.open_next.new.disk c.args.found.now c.requires.found c.requires.pending c.requires.greatest c.if-number-eq-NUMBER_LIMIT.false c.items.result.now c.items.ensures
+      c.args.taker c.requires.taker c.next-first.result c.next-first.ensures.next c.next-first.ensures.first c.open_next.ensures.images
+      c.args.clients c.requires.clients [] [] 0 c.open_next.ensures.frame.time.later c.open_next.ensures.frame.told c.in_default-open_next.ensures.durable (λ told. (c.in_default-open_next.ensures.made told).made)
+      c.open_next.ensures.others c.open_next.ensures.pending c.in_default-open_next.ensures.read
+      c.in-Ok.buffers.segments.items c.in-Ok.ensures.0;
   newest = λ told. c.in_default-open_next.ensures.durable;
+  alike = alike_still g.D.Disk g.met.D.Disk.as_read g.met.D.Disk.counts_now g.met.D.Disk.stays_absent c.one_log.ensures.log
+      c.args.disk c.open_next.new.disk c.args.found.now c.requires.found c.requires.pending c.requires.greatest c.if-number-eq-NUMBER_LIMIT.false c.items.result.now c.items.ensures
+      c.args.taker c.requires.taker c.next-first.result c.next-first.ensures.next c.next-first.ensures.first c.open_next.ensures.images
+      c.args.clients c.requires.clients [] [] 0 c.open_next.ensures.frame.time.later c.open_next.ensures.frame.told c.in_default-open_next.ensures.durable (λ told. (c.in_default-open_next.ensures.made told).made)
+      c.open_next.ensures.others c.open_next.ensures.pending c.in_default-open_next.ensures.read;
   pending = none_pends g.D.Disk g.met.D.Disk.as_read g.met.D.Disk.counts_now g.met.D.Disk.stays_absent c.one_log.ensures.log
       c.args.disk c.open_next.new.disk c.args.found.now c.requires.found c.requires.pending c.requires.greatest c.if-number-eq-NUMBER_LIMIT.false c.items.result.now c.items.ensures
       c.args.taker c.requires.taker c.next-first.result c.next-first.ensures.next c.next-first.ensures.first c.open_next.ensures.images
       c.args.clients c.requires.clients [] [] 0 c.open_next.ensures.frame.time.later c.open_next.ensures.frame.told c.in_default-open_next.ensures.durable (λ told. (c.in_default-open_next.ensures.made told).made)
-      c.open_next.ensures.others c.open_next.ensures.pending;
+      c.open_next.ensures.others c.open_next.ensures.pending c.in_default-open_next.ensures.read;
   whole = durable_none g.D.Disk g.met.D.Disk.as_read g.met.D.Disk.counts_now g.met.D.Disk.stays_absent c.one_log.ensures.log
       c.args.disk c.open_next.new.disk c.args.found.now c.requires.found c.requires.pending c.requires.greatest c.if-number-eq-NUMBER_LIMIT.false c.items.result.now c.items.ensures
       c.args.taker c.requires.taker c.next-first.result c.next-first.ensures.next c.next-first.ensures.first c.open_next.ensures.images
       c.args.clients c.requires.clients [] [] 0 c.open_next.ensures.frame.time.later c.open_next.ensures.frame.told c.in_default-open_next.ensures.durable (λ told. (c.in_default-open_next.ensures.made told).made)
-      c.open_next.ensures.others c.open_next.ensures.pending;
+      c.open_next.ensures.others c.open_next.ensures.pending c.in_default-open_next.ensures.read;
 }

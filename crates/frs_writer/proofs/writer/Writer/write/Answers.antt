@@ -191,7 +191,7 @@ returns-in-Ok-clause-durable g c =
     let short = short_here d w kept fine c.args.limit t still group gathered here in
     let last : WriterView g.row.D.Denot = record { opened = w.opened; disk = mid; taker = t; kept = still; segments = segments; noted = w.noted; pins = w.pins; older = w.older; synced = w.synced + c.from.result; lowest = c.lowest_or-self-inside.result; ended = w.ended } in
     let now = (invariant_of-self-in-Ok g c).kept_is in
-    subst (λ (v : WriterView g.row.D.Denot). IsDurable d v last) c.self.view_is (durable_written d w last now (λ told. subst IsTrue (kept.told ∙ sym now.told) told) fine)
+    subst (λ (v : WriterView g.row.D.Denot). IsDurable d v last) c.self.view_is (durable_written d w last now (λ told. subst IsTrue (kept.told ∙ sym now.told) told) g.met.D.Disk.as_read fine)
 
 -- ---- where it was cut short
 
