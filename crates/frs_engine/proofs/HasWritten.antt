@@ -1,5 +1,5 @@
 -- What single calls of the writer make of a journal.
-use Rattle.std.proofs.Common.{◌≡◌, ◌≢◌, ◌⊎◌, inl, inr, ⊎_elim, ℕ, zero, suc, ◌+◌, ◌^◌, ◌<◌, ◌≤◌, Bool, true, false, cond, List, [], ◌∷◌, ◌++◌, map, length, take, Option, Some, None, Err, refl, sym, ◌∙◌, ap, subst, arith, IsTrue, length-append}
+use Rattle.std.proofs.Common.{◌≡◌, ◌≢◌, ◌⊎◌, inl, inr, ⊎_elim, ℕ, zero, suc, ◌+◌, ◌-◌, ◌^◌, ◌<◌, ◌≤◌, Bool, true, false, cond, List, [], ◌∷◌, ◌++◌, map, length, take, Option, Some, None, Err, refl, sym, ◌∙◌, ap, subst, arith, IsTrue, length-append}
 use Rattle.std.specs.Prelude.{nat_lt, ◌&&◌, nat_le, slice_set, IfSome}
 use Rattle.std.specs.Option.{option_to_list}
 use Rattle.std.specs.FinMap.{entries, empty}
@@ -7,7 +7,7 @@ use Rattle.std.proofs.lemmas.Bool.{cases_eq, and_parts, and_from}
 use Rattle.std.proofs.lemmas.List.{map-append, length-map}
 use mathlib.Core.List.{IsPrefix}
 use Rattle.frs_types.specs.declared.record.Record.{Record}
-use Rattle.frs_types.specs.Records.{Log, IsPlaced, are_placed_from, is_allowed}
+use Rattle.frs_types.specs.Records.{Log, IsPlaced, are_placed_from, is_allowed, from_lowest}
 use Rattle.frs_disk.specs.declared.disk.Fault.TheVariants.{Failed}
 use Rattle.frs_disk.specs.declared.disk.Disk.{Ghosts}
 use Rattle.frs_disk.specs.Disk.{Image}
@@ -16,12 +16,12 @@ use Rattle.frs_frame.specs.Spelling.{spelling}
 use Rattle.frs_segment.specs.declared.layout.Segment.{Segment}
 use Rattle.frs_segment.specs.Segments.{Spells}
 use Rattle.frs_segment.specs.Scanning.{places_of_segment}
-use Rattle.frs_segment.specs.Stores.{SpellsAlike}
+use Rattle.frs_segment.specs.Stores.{SpellsAlike, LeavesAlike, log_up_to}
 use Rattle.frs_slots.specs.Views.{TakerView}
 use Rattle.frs_writer.specs.Groups.{GathersGroup, IsTooLong, joined_records}
 use Rattle.frs_writer.specs.Places.{number_of_newest, with_newest_grown}
 use Rattle.frs_writer.specs.LogImages.{new_segment}
-use Rattle.frs_writer.specs.Writer.{WriterView, IsLog, IsWellOpened, WasEmpty}
+use Rattle.frs_writer.specs.Writer.{WriterView, IsLog, WasEmpty}
 use Rattle.frs_writer.specs.declared.fault.WriteFault.{WriteFault}
 use Rattle.frs_writer.specs.declared.fault.WriteFault.TheVariants as write
 use Rattle.frs_writer.specs.Writing.{HoldsOnly, HoldsLog, HoldsFrom, HasWriteCause, WritesGroup, is_due, segments_after_roll}
@@ -162,6 +162,8 @@ module _ {D : Type 0} (g : Ghosts D) where
     told = h.told;
     opened = h.opened;
     holds = h.holds;
+    spelled = h.spelled;
+    alike = h.alike;
   }
 
   pub acknowledged : (w new : WriterView D) (rs : List Record) (lsn : ℕ) → HasWritten g w rs → lsn ≤ length rs → new ≡ record w { noted = slice_set w.noted 0 lsn } → HasWritten g new rs
@@ -200,7 +202,7 @@ module _ {D : Type 0} (g : Ghosts D) where
 
   -- ---- the log that it writes
 
-  pub well_opened : (opened : D) → g.reads opened ≡ empty → LeftNoFile g opened → IsWellOpened g opened
+  pub well_opened : (opened : D) → g.reads opened ≡ empty → LeftNoFile g opened → LeavesAlike g opened
   well_opened opened is none c left =
       let now : entries c ≡ [] = no_entries c (none c left) in
       let before : entries (g.reads opened) ≡ [] = no_entries (g.reads opened) is in
@@ -238,7 +240,7 @@ module _ {D : Type 0} (g : Ghosts D) where
         last apart le = omega (arith, apart, from, le, within, h.synced, length-append rs (r ∷ []))
 
     pub holds_within : (left : Image → Type 0) → IsPrefix new.taker.taken (map spelling (rs ++ r ∷ [])) → IsPlaced (log_of (rs ++ r ∷ []))
-        → (IsWellOpened g new.opened → (log : Log) → IsLog g new log → IsPlaced log → WasEmpty g new.opened → (c : Image) → left c → HoldsFrom (LeftNoFile g new.opened) old.synced log c)
+        → (LeavesAlike g new.opened → (log : Log) → IsLog g new log → IsPlaced log → WasEmpty g new.opened → (c : Image) → left c → HoldsFrom (LeftNoFile g new.opened) old.synced log c)
         → (c : Image) → left c → HoldsOneMore rs r c
     holds_within left front placed whole c is_left =
         let (k, within, taken) = prefix_taken spelling new.taker.taken (rs ++ r ∷ []) front in
@@ -251,7 +253,7 @@ module _ {D : Type 0} (g : Ghosts D) where
     known_front front = subst (λ (l : List (List ℕ)). IsPrefix l (map spelling (rs ++ r ∷ []))) (ap (λ (w : WriterView D). w.taker.taken) is) front
 
     pub met_within : (old : WriterView D) → HasWritten g old rs → mid.opened ≡ old.opened → IsTrue (g.tells old.disk) → LeftNoFile g old.opened → IsPrefix new.taker.taken (map spelling (rs ++ r ∷ [])) → IsPlaced (log_of (rs ++ r ∷ []))
-        → (IsWellOpened g mid.opened → (log : Log) → IsLog g mid log → IsPlaced log → WasEmpty g mid.opened → Within g old.disk mid.disk (HoldsFrom (LeftNoFile g mid.opened) old.synced log))
+        → (LeavesAlike g mid.opened → (log : Log) → IsLog g mid log → IsPlaced log → WasEmpty g mid.opened → Within g old.disk mid.disk (HoldsFrom (LeftNoFile g mid.opened) old.synced log))
         → Within g old.disk new.disk (HoldsOneMore rs r)
     met_within old h opened told none front placed whole c left =
         holds_within old mid rs r h opened told none (λ (i : Image). g.left_since new.disk (g.moment old.disk) i) (known_front front) placed
@@ -275,9 +277,11 @@ module _ {D : Type 0} (g : Ghosts D) where
     pub synced_is : new.synced ≡ length (rs ++ r ∷ [])
     synced_is = omega (arith, wrote.synced, wrote.counted, gathered.one, h.synced, length-append rs (r ∷ []))
 
-    pub one_written : (IsTrue (g.tells old.disk) → IsWellOpened g new.opened → (log : Log) → IsLog g new log → IsPlaced log → WasEmpty g new.opened → (c : Image) → g.may_leave new.disk c → HoldsLog (LeftNoFile g new.opened) 0 (entries c) (take new.synced log.records))
+    pub one_written : (IsTrue (g.tells old.disk) → LeavesAlike g new.opened → (log : Log) → IsLog g new log → IsPlaced log → WasEmpty g new.opened → (c : Image) → g.may_leave new.disk c → HoldsLog (LeftNoFile g new.opened) 0 (entries c) (take new.synced log.records))
+        → (IsTrue (g.tells old.disk) → LeavesAlike g new.opened → (log : Log) → IsLog g new log → IsPlaced log → (c : Image) → g.may_leave new.disk c → Spells (entries c) (log_up_to new.synced log))
+        → (IsTrue (g.tells old.disk) → LeavesAlike g new.opened → (log : Log) → IsLog g new log → IsPlaced log → LeavesAlike g new.disk)
         → HasWritten g new (rs ++ r ∷ [])
-    one_written durable =
+    one_written durable spelled alike =
         let long : length (rs ++ r ∷ []) ≡ length rs + 1 = length-append rs (r ∷ []) in
         record {
           first = wrote.gathers.ring.1 ∙ h.first;
@@ -295,6 +299,16 @@ module _ {D : Type 0} (g : Ghosts D) where
               let empty_then : g.reads new.opened ≡ empty = ap g.reads opened ∙ h.opened (subst IsTrue h.told told_before) in
               subst (HoldsOnly 0 (entries c)) (ap (λ (n : ℕ). take n (rs ++ r ∷ [])) synced_is ∙ taken_all (rs ++ r ∷ []))
               ((durable told_before (well_opened new.opened empty_then left_no) (log_of (rs ++ r ∷ [])) (writes_log new (rs ++ r ∷ []) empty_then taken_is) placed (was_empty new.opened empty_then) c left).1 left_no);
+          spelled = λ told_now left_no placed c left.
+              let told_before : IsTrue (g.tells old.disk) = subst IsTrue told told_now in
+              let empty_then : g.reads new.opened ≡ empty = ap g.reads opened ∙ h.opened (subst IsTrue h.told told_before) in
+              let all_durable : new.synced + 1 - 1 ≡ length (rs ++ r ∷ []) = omega (arith, synced_is) in
+              subst (λ (l : List Record). Spells (entries c) (from_lowest 1 l)) (ap (λ (n : ℕ). take n (rs ++ r ∷ [])) all_durable ∙ taken_all (rs ++ r ∷ []))
+              (spelled told_before (well_opened new.opened empty_then left_no) (log_of (rs ++ r ∷ [])) (writes_log new (rs ++ r ∷ []) empty_then taken_is) placed c left);
+          alike = λ told_now left_no placed.
+              let told_before : IsTrue (g.tells old.disk) = subst IsTrue told told_now in
+              let empty_then : g.reads new.opened ≡ empty = ap g.reads opened ∙ h.opened (subst IsTrue h.told told_before) in
+              alike told_before (well_opened new.opened empty_then left_no) (log_of (rs ++ r ∷ [])) (writes_log new (rs ++ r ∷ []) empty_then taken_is) placed;
         }
 
 -- ---- the opening

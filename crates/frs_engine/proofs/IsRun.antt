@@ -55,7 +55,9 @@ run_behind g decided old mid new script es acks reads goes run = record {
       };
   completes = run.completes;
   shows_all = λ closed told only. run.shows_all closed (subst IsTrue (sym reads.told) told) (λ x left. only x (reads.crash x left));
-  again = run.again;
+  again = λ closed.
+      let left = run.again closed in
+      record { removed = left.removed; ready = λ told only. left.ready (subst IsTrue (sym reads.told) told) (λ x left. only x (reads.crash x left)) };
 }
 
 -- why it ended, from the disk's state before the call

@@ -2,13 +2,15 @@
 use Rattle.std.specs.Prelude.{◌≡◌, ◌⊎◌, ℕ, ◌+◌, ◌≤◌, List, [], ◌∷◌, ◌++◌, length, map, None, Result, Ok, Err, IsTrue}
 use Rattle.std.specs.FinMap.{entries, empty}
 use Rattle.frs_types.specs.declared.record.Record.{Record}
-use Rattle.frs_types.specs.Records.{Log, IsPlaced}
+use Rattle.frs_types.specs.Records.{Log, IsPlaced, from_lowest}
 use Rattle.frs_disk.specs.declared.disk.Fault.{Fault}
 use Rattle.frs_disk.specs.declared.disk.Fault.TheVariants.{Failed, Memory}
 use Rattle.frs_disk.specs.declared.disk.Disk.{Ghosts}
 use Rattle.frs_disk.specs.Disk.{Image, Rose}
 use Rattle.frs_disk.specs.Frames.{LeftNoFile}
 use Rattle.frs_frame.specs.Spelling.{spelling}
+use Rattle.frs_segment.specs.Segments.{Spells}
+use Rattle.frs_segment.specs.Stores.{LeavesAlike}
 use Rattle.frs_slots.specs.Views.{AreOfOneRing}
 use Rattle.frs_writer.specs.declared.fault.WriteFault.{WriteFault}
 use Rattle.frs_writer.specs.declared.fault.WriteFault.TheVariants as write
@@ -37,6 +39,9 @@ pub record HasWritten {D : Type 0} (g : Ghosts D) (w : WriterView D) (records : 
   pub opened : IsTrue (g.tells w.opened) → g.reads w.opened ≡ empty
   pub holds : IsTrue (g.tells w.disk) → LeftNoFile g w.opened → IsPlaced (log_of records)
       → (c : Image) → g.may_leave w.disk c → HoldsOnly 0 (entries c) records
+  pub spelled : IsTrue (g.tells w.disk) → LeftNoFile g w.opened → IsPlaced (log_of records)
+      → (c : Image) → g.may_leave w.disk c → Spells (entries c) (from_lowest 1 records)
+  pub alike : IsTrue (g.tells w.disk) → LeftNoFile g w.opened → IsPlaced (log_of records) → LeavesAlike g w.disk
 
 -- the two ends are of one ring, on which these records were drawn
 pub record HasDrawn {D : Type 0} (j : Journal D) (records : List Record) : Type 0 where

@@ -8,7 +8,8 @@ use Rattle.frs_disk.specs.declared.disk.Disk as disks
 use Rattle.frs_disk.specs.declared.outside.Files as files
 use Rattle.frs_disk.specs.declared.outside.Sink as sinks
 use Rattle.frs_disk.specs.Disk.{Image, Rose}
-use Rattle.frs_disk.specs.Frames.{LeftNoFile, NoneRemovedAbove, OnlyReads}
+use Rattle.frs_disk.specs.Frames.{LeftNoFile, RemovesBelow, OnlyReads}
+use Rattle.frs_recovery.specs.Sound.{IsReady}
 use Rattle.frs_types.specs.declared.limits.TheConstants.{CLIENT_LIMIT}
 use Rattle.frs_text.specs.declared.plan.TheConstants.{DEMO_LIMIT}
 use Rattle.frs_text.specs.declared.plan.RunPlan.{RunPlan}
@@ -34,16 +35,22 @@ HasWork (Demo clients count) =
 -- ---- the disk
 
 module _ {D : Type 0} (g : disks.Ghosts D) where
+  -- The disk can be run on again: a file whose removal is pending stands below one that is there, and where a crash at
+  -- the start would have left no file the disk is ready.
+  pub record LeavesReady (old new : D) : Type 0 where
+    pub removed : IsTrue (g.tells new) → RemovesBelow g new
+    pub ready : IsTrue (g.tells old) → LeftNoFile g old → IsReady g new
+
   -- What a run of the script did on this disk, and with which status it ended. Of a crash something is said where the
-  -- disk tells what it holds and a crash at the start would have left no file. Once all was done no removal is pending
-  -- above its files, so it can be run on again.
+  -- disk tells what it holds and a crash at the start would have left no file. Once all was done the disk can be run on
+  -- again.
   pub record IsRun (decided : ℕ) (old new : D) (script : List Line) (es : List Event) (acks : List Ack) : Type 0 where
     pub tells : Tells script es acks
     pub survives : IsTrue (g.tells old) → LeftNoFile g old → Survives g (commits_of_run script es) acks old new
     pub completes : decided ≡ 0 → Completes script es acks
     pub shows_all : decided ≡ 0 → IsTrue (g.tells old) → LeftNoFile g old
         → (image : Image) → g.may_leave new image → ShowsAll (commits_of_run script es) image
-    pub again : decided ≡ 0 → IsTrue (g.tells new) → NoneRemovedAbove g new
+    pub again : decided ≡ 0 → LeavesReady old new
 
   -- Where a script is refused, a file isn't read or a limit is met, the disk is as it was. A disk that lists files is
   -- at most looked at, and so is each where the run isn't built yet.

@@ -3,7 +3,7 @@ ghost use Rattle.std.specs.Prelude.{◌≡◌, ◌+◌, ◌<◌, ◌^◌, ◌++�
 ghost use Rattle.std.specs.FinMap.{entries, empty};
 ghost use Rattle.frs_types.specs.declared.record.Record.{Record};
 ghost use Rattle.frs_types.specs.Records.{IsPlaced};
-ghost use Rattle.frs_disk.specs.Frames.{LeftNoFile, NoneRemovedAbove, Within, GoesOn};
+ghost use Rattle.frs_disk.specs.Frames.{LeftNoFile, RemovesBelow, Within, GoesOn};
 ghost use Rattle.frs_frame.specs.Spelling.{spelling};
 ghost use Rattle.frs_segment.specs.Stores.{IsFound};
 ghost use Rattle.frs_slots.specs.Views.{AreOfOneRing};
@@ -217,7 +217,7 @@ impl<D: Disk> Journal<D> {
     pub(crate) fn into_disk(self) -> D
         ensures disk { result ≡ self.writer.disk }
         ensures pending { self.writer.ended ≡ None → IsTrue (D.tells result)
-            → NoneRemovedAbove D.Disk result }
+            → RemovesBelow D.Disk result }
     {
         let Journal { writer, .. } = self;
         writer.into_disk()

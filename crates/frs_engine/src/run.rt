@@ -4,7 +4,7 @@ ghost use Rattle.frs_disk.specs.Frames.{NoneRemovedAbove, GoesOn};
 ghost use Rattle.frs_engine.specs.Causes.{one_file, ending_of_plan, handed, IsCause, IsEndOfRun};
 ghost use Rattle.frs_engine.specs.Endings.{status_of};
 ghost use Rattle.frs_engine.specs.Promise.{has_puts_and_gets};
-ghost use Rattle.frs_engine.specs.Runs.{LeavesFiles, HasWork, IsRun, LeavesAlone, WasRun, HasCauses, IsComplete};
+ghost use Rattle.frs_engine.specs.Runs.{LeavesFiles, HasWork, IsRun, LeavesAlone, LeavesReady, WasRun, HasCauses, IsComplete};
 
 use crate::ending::Ending;
 use crate::outcome::Outcome;
@@ -82,7 +82,7 @@ fn attempt<D: Disk, F: Files>(alloc: Global, plan: &RunPlan, disk: D, files: &mu
 ///
 /// The plan names at least one file, or has the numbers of a demo within their limits, and no removal is pending on the
 /// disk of a number above those of its files. The shelf comes back as it was. Nothing waits yet,
-/// and the turn is told nothing.
+/// and the turn is told nothing. Once all was done the disk may be run on again.
 ///
 /// The status is 0 where all was done, 2 where a line of the script is refused, 3 where the disk failed, 5 where the
 /// file wasn't read, 6 where the sink failed after a run that was whole, 8 where there are more than 64 files or the
@@ -121,8 +121,7 @@ pub fn frs_run<
 
     // What it leaves.
     ensures left_alone { LeavesAlone D.Disk disk result.disk result.status }
-    ensures again { result.status ≡ 0 → IsTrue (D.tells result.disk)
-        → NoneRemovedAbove D.Disk result.disk }
+    ensures again { result.status ≡ 0 → LeavesReady D.Disk disk result.disk }
     ensures files { LeavesFiles F.Files (handed plan.now disk result.disk files.old files.new) }
     ensures frame { GoesOn D.Disk disk result.disk }
     ensures shelf { result.shelf ≡ shelf }

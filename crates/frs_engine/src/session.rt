@@ -262,7 +262,7 @@ impl<'a> Run<'a> {
             → LeftNoFile D.Disk journal.old.writer.opened
             → (c : Image) → D.may_leave journal.new.writer.disk c
             → ShowsAll (commits_so_far self.new) c) }
-        ensures going { OnOk result (journal.new.writer.ended ≡ None) }
+        ensures ready { OnOk result (IsUnderWay D.Disk journal.new self.new) }
         ensures cause { CallHasCause (D.faults journal.old.writer.disk)
             (D.faults journal.new.writer.disk) result }
     {

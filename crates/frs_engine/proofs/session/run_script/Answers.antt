@@ -1,6 +1,7 @@
 use Rattle.std.proofs.Common.{◌≡◌, ◌∙◌, Some, List, [], ap, sym, subst, IsTrue}
-use Rattle.frs_disk.specs.Frames.{Within, LeftNoFile}
+use Rattle.frs_disk.specs.Frames.{Within, LeftNoFile, RemovesBelow}
 use Rattle.frs_disk.proofs.Moments.{within_join}
+use Rattle.frs_recovery.specs.Sound.{IsReady}
 use Rattle.frs_history.specs.declared.command.Line.{Line}
 use Rattle.frs_history.specs.declared.event.Ack.{Ack}
 use Rattle.frs_history.specs.declared.event.Event.{Event}
@@ -43,7 +44,22 @@ returns-in-Ok-clause-run g c =
           let told_mid : IsTrue (d.tells mid) = subst IsTrue (sym c.in-Ok.ensures.frame.0.told) told in
           let none_mid : LeftNoFile d c.in-Ok.journal.writer.opened = subst (λ e. LeftNoFile d e) (sym c.in-Ok.ensures.opened) none in
           subst (λ (cs : List Changes). ShowsAll cs x) same (not_stopped c.play.result (stopped zero) c.play.ensures.all told_mid none_mid x (subst (λ e. d.may_leave e x) c.into_disk.ensures.disk left));
-      again = λ zero. c.into_disk.ensures.pending (not_stopped c.play.result (stopped zero) c.play.ensures.going);
+      again = λ zero.
+          let ready = not_stopped c.play.result (stopped zero) c.play.ensures.ready in
+          let written = ready.written.written in
+          let removed = c.into_disk.ensures.pending written.ended in
+          record {
+            removed = removed;
+            ready = λ told none.
+                let told_last : IsTrue (d.tells last) = subst IsTrue (sym (p.frame.told ∙ c.in-Ok.ensures.frame.0.told)) told in
+                let none_last : LeftNoFile d c.play.new.journal.writer.opened = subst (λ e. LeftNoFile d e) (sym (p.opened ∙ c.in-Ok.ensures.opened)) none in
+                let log = ready.answered.log in
+                subst (λ (e : _). IsReady d e) (sym c.into_disk.ensures.disk) (record {
+                  sound = (ready.records, log.lawful, written.spelled told_last none_last log.placed (d.reads last) (g.met.D.Disk.as_read last told_last));
+                  alike = written.alike told_last none_last log.placed;
+                  removed = subst (λ (e : _). RemovesBelow d e) c.into_disk.ensures.disk (removed (subst (λ (e : _). IsTrue (d.tells e)) (sym c.into_disk.ensures.disk) told_last));
+                });
+          };
     } in
     let events : c.into_answers-events.result.0.items ≡ new.events.items = ap (λ v. v.items) c.into_answers-events.ensures.events in
     let acks : c.into_answers-events.result.1.items ≡ new.acks.items = ap (λ v. v.items) c.into_answers-events.ensures.acks in

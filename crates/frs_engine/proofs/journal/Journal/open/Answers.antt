@@ -56,6 +56,16 @@ returns-in-Ok-new-clause-written g c =
             let none_before : LeftNoFile d c.args.disk = subst (λ e. LeftNoFile d e) is.0 none in
             let empty = c.requires.empty told_before in
             (c.in-Ok-new.ensures.durable.whole told_before (well_opened d c.args.disk empty none_before) (was_empty d c.args.disk empty) x left).1 none_before;
+        spelled = λ told none placed x left.
+            let told_before : IsTrue (d.tells c.args.disk) = subst IsTrue c.in-Ok-new.ensures.frame.0.told told in
+            let none_before : LeftNoFile d c.args.disk = subst (λ e. LeftNoFile d e) is.0 none in
+            let empty = c.requires.empty told_before in
+            c.in-Ok-new.ensures.crash.0.images told_before (well_opened d c.args.disk empty none_before) (log_of []) (was_empty d c.args.disk empty) x
+            (g.met.D.Disk.counts_now w.disk (d.moment c.args.disk) x c.in-Ok-new.ensures.frame.0.time.later left);
+        alike = λ told none placed.
+            let told_before : IsTrue (d.tells c.args.disk) = subst IsTrue c.in-Ok-new.ensures.frame.0.told told in
+            let none_before : LeftNoFile d c.args.disk = subst (λ e. LeftNoFile d e) is.0 none in
+            c.in-Ok-new.ensures.durable.alike told_before (well_opened d c.args.disk (c.requires.empty told_before) none_before);
       };
       drawn = record {
         one_ring = subst (λ t. AreOfOneRing c.in-Ok.drawer t) (sym is.1) c.in-Ok.ensures.one_ring;

@@ -22,7 +22,7 @@ returns-in-Ok-clause-written g c records r is =
     record {
       written = known_more d mid new (records ++ r ∷ []) new.taker.known
           (one_written d c.in-Ok.field-0 c.args.self.now.writer mid records r is.next.written is.known is.sure front c.in-Ok.ensures.wrote c.in-Ok.ensures.cause.2
-          wrote.same.opened wrote.same.noted wrote.frame.told c.in-Ok.ensures.durable.whole) c.meet.ensures.taker.0;
+          wrote.same.opened wrote.same.noted wrote.frame.told c.in-Ok.ensures.durable.whole c.in-Ok.ensures.durable.spelled c.in-Ok.ensures.durable.alike) c.meet.ensures.taker.0;
       drawn = record { one_ring = c.meet.ensures.one_ring; drawn = drawn };
     }
 

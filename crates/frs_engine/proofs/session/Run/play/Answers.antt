@@ -58,5 +58,5 @@ returns-clause-all g c =
     (omega (arith, marked.1, c.in_ok-answer_all.ensures.done.marks)))
     (on_ok_both _ _ c.mark-2.result c.mark-2.ensures.ready c.mark-2.ensures.drawn)
 
-pub returns-clause-going : goal.returns-clause-going
-returns-clause-going g c = on_ok_weaker c.mark-2.result (λ ready. ready.written.written.ended) c.mark-2.ensures.ready
+pub returns-clause-ready : goal.returns-clause-ready
+returns-clause-ready g c = c.mark-2.ensures.ready
