@@ -21,7 +21,7 @@ use Rattle.frs_history.specs.declared.event.Event.{Event}
 use Rattle.frs_history.specs.Machine.{State, Scripts}
 use Rattle.frs_history.specs.Histories.{next, run}
 use Rattle.frs_book.specs.Drawn.{SessionHistory, Drawing, action_at, record_for, draw_step, drawn_records}
-use Rattle.frs_book.specs.Drawn.{drawing_of, acks_owed, ack_at}
+use Rattle.frs_book.specs.Drawn.{draw_steps, drawing_of, acks_owed, ack_at}
 use Rattle.frs_book.specs.Agreement.{Agreement, AreWorded, has_words_if, is_quiet, may_close, begun, IsSession, AreStoredBefore}
 use Rattle.frs_book.specs.Books.{BookView, IsBook, IsAmong, is_same_ack, moment_of, event_lsn, new_book}
 use Rattle.frs_book.proofs.HistoryRuns.{session_is_shown}
@@ -55,14 +55,14 @@ count_more test acks more =
     let both : count_by test (acks ++ more) ≡ count_by test acks + count_by test more = sum_by-append (λ x. cond (test x) 1 0) acks more in
     omega (arith, both)
 
-next_behind : (rs : List Record) (s : LogState) → (state_after s rs).next ≡ s.next + length rs
+pub next_behind : (rs : List Record) (s : LogState) → (state_after s rs).next ≡ s.next + length rs
 next_behind [] s = omega arith
 next_behind (r ∷ rs) s =
     let rest : (state_after (after_record s r) rs).next ≡ (after_record s r).next + length rs = next_behind rs (after_record s r) in
     let one : (after_record s r).next ≡ s.next + 1 = next_after s r in
     omega (arith, rest, one)
 
-same_ack_is : (x a : Ack) → is_same_ack x a ≡ true → x ≡ a
+pub same_ack_is : (x a : Ack) → is_same_ack x a ≡ true → x ≡ a
 same_ack_is x a same =
     let parts = and_parts ((x.client == a.client) && (x.line == a.line)) (x.lsn == a.lsn) same in
     let both = and_parts (x.client == a.client) (x.line == a.line) parts.0 in
@@ -215,6 +215,7 @@ module _ (b : BookView) (is : IsBook b) where
 
 pub new_is_book : (scripts : Scripts) (entries : Table StoredValue) (last : ℕ) (drawer : DrawerView) → 1 ≤ next_drawn drawer
     → IsTable entries → AreStoredBefore (next_drawn drawer) entries → IsBook (new_book scripts entries last drawer)
+unfolding draw_steps
 new_is_book scripts entries last drawer some sorted stored =
     let at_next : next_drawn drawer - 1 + 1 ≡ next_drawn drawer = omega (arith, some) in
     record {

@@ -65,7 +65,7 @@ module _ (scripts : Scripts) (s : State) (d : Drawing) (agrees : Agreement scrip
   Keeps tx x (Waits_for lock) = Unit {0}
   Keeps tx x Never = Unit {0}
 
-  drawn_as : (tx : Transaction) → (client s c).tx ≡ tx → IsDrawnBy d.log begin tx old
+  pub drawn_as : (tx : Transaction) → (client s c).tx ≡ tx → IsDrawnBy d.log begin tx old
   drawn_as tx is = subst (λ t. IsDrawnBy d.log begin t old) is (agrees.drawn c)
 
   -- ---- without a record
@@ -200,7 +200,7 @@ module _ (scripts : Scripts) (s : State) (d : Drawing) (agrees : Agreement scrip
   -- ---- commands where nobody hinders the client
 
   -- what the client sees is what its transaction sees in the log
-  seen_as : (tx : Transaction) → (client s c).tx ≡ tx → IsDrawnBy d.log begin tx old
+  pub seen_as : (tx : Transaction) → (client s c).tx ≡ tx → IsDrawnBy d.log begin tx old
       → maps_seen s c ≡ plain_maps (table_after_all d.log.entries (changes_of d.log.active begin))
   seen_as tx is own = ap (λ t. seen_by t s.maps) is ∙ ap (seen_by tx) agrees.maps ∙ by_kind tx own
     where

@@ -128,13 +128,16 @@ one_key = fresh
 one_key_drawn : IsExample one_key
     ((0, 1, 0) ∷ (0, 2, 0) ∷ (3, 2, 0) ∷ (3, 2, 2) ∷ (3, 2, 4) ∷ (3, 2, 0) ∷ (3, 2, 0) ∷ (0, 6, 0) ∷ [])
     (ack 1 1 2 ∷ ack 1 6 7 ∷ [])
+unfolding draw_steps
 one_key_drawn = record { legal = refl; lawful = refl; drawn = refl; acks = refl }
 
 one_key_shows : map (λ n. maps_at n one_key) (1 ∷ 2 ∷ 6 ∷ 7 ∷ 8 ∷ [])
     ≡ [] ∷ (entry m k z ∷ []) ∷ (entry m k z ∷ []) ∷ (entry m k b ∷ []) ∷ (entry m k b ∷ []) ∷ []
+unfolding draw_steps
 one_key_shows = refl
 
 one_key_commits : map (commits_up_to one_key) (1 ∷ 2 ∷ 3 ∷ 4 ∷ 5 ∷ 6 ∷ 7 ∷ 8 ∷ []) ≡ 0 ∷ 1 ∷ 1 ∷ 1 ∷ 1 ∷ 1 ∷ 2 ∷ 2 ∷ []
+unfolding draw_steps
 one_key_commits = refl
 
 -- ---- a script that ends in an active transaction draws an abandon record
@@ -144,9 +147,11 @@ ended = fresh (script (Put m k a ∷ Begin true ∷ Put m k b ∷ []) ∷ []) (a
 
 ended_drawn : IsExample ended
     ((0, 1, 0) ∷ (0, 2, 0) ∷ (3, 2, 0) ∷ (3, 2, 2) ∷ (3, 2, 0) ∷ (0, 2, 0) ∷ []) (ack 1 1 2 ∷ [])
+unfolding draw_steps
 ended_drawn = record { legal = refl; lawful = refl; drawn = refl; acks = refl }
 
 ended_abandons : actions (take 1 (drop 4 (log_of ended))) ≡ action.Abandon ∷ []
+unfolding draw_steps
 ended_abandons = refl
 
 -- ---- a put behind a delete names nothing
@@ -158,9 +163,11 @@ deleted = fresh
 deleted_drawn : IsExample deleted
     ((0, 1, 0) ∷ (0, 2, 0) ∷ (3, 2, 0) ∷ (3, 2, 0) ∷ (3, 2, 0) ∷ (3, 2, 0) ∷ (3, 2, 0) ∷ (0, 6, 0) ∷ [])
     (ack 1 1 2 ∷ ack 1 6 7 ∷ [])
+unfolding draw_steps
 deleted_drawn = record { legal = refl; lawful = refl; drawn = refl; acks = refl }
 
 deleted_shows : maps_at 8 deleted ≡ entry m a three ∷ []
+unfolding draw_steps
 deleted_shows = refl
 
 -- ---- a transaction of 100 puts that isn't acknowledged
@@ -173,16 +180,16 @@ abbrev hundred : SessionHistory
 hundred = fresh (script (Begin false ∷ puts_from 1 100 ++ Commit ∷ []) ∷ []) (all_done 1 1 102) (Some 102)
 
 hundred_lawful : are_lawful (settled_state [] 1) (log_of hundred) ≡ true
-unfolding digits
+unfolding digits draw_steps
 hundred_lawful = refl
 
 hundred_acks : acks_owed hundred ≡ []
-unfolding digits
+unfolding digits draw_steps
 hundred_acks = refl
 
 -- 102 records and the two marks; the lowest is then that of the first put
 hundred_end : (length (log_of hundred) ≡ 104) × (lowest (state_after (settled_state [] 1) (log_of hundred)) ≡ 3)
-unfolding digits
+unfolding digits draw_steps
 hundred_end = (refl, refl)
 
 -- ---- two clients, a wait and a deadlock
@@ -196,13 +203,16 @@ two_clients = fresh
 -- all name 0 and carry 2, the LSN of the first begin
 two_clients_drawn : IsExample two_clients
     ((0, 1, 0) ∷ (2, 2, 0) ∷ (3, 2, 0) ∷ (2, 2, 0) ∷ (3, 2, 0) ∷ (3, 2, 0) ∷ (2, 2, 0) ∷ (2, 2, 0) ∷ []) (ack 1 4 8 ∷ [])
+unfolding draw_steps
 two_clients_drawn = record { legal = refl; lawful = refl; drawn = refl; acks = refl }
 
 two_clients_actions : actions (drawn_records two_clients)
     ≡ action.Begin ∷ action.Begin ∷ action.Put m a one ∷ action.Put m b three ∷ action.Abandon ∷ action.Put m b two ∷ action.Commit ∷ []
+unfolding draw_steps
 two_clients_actions = refl
 
 two_clients_shows : map (λ n. maps_at n two_clients) (7 ∷ 8 ∷ []) ≡ [] ∷ (entry m a one ∷ entry m b two ∷ []) ∷ []
+unfolding draw_steps
 two_clients_shows = refl
 
 -- ---- a reader outside of a transaction never waits
@@ -212,6 +222,7 @@ reader = fresh (script (Put m k one ∷ Begin true ∷ Put m k two ∷ Commit �
     (says 1 1 Done ∷ says 1 2 Done ∷ says 1 3 Done ∷ says 2 1 (Found one) ∷ says 1 4 Done ∷ says 2 2 (Found two) ∷ []) None
 
 reader_drawn : IsExample reader ((0, 1, 0) ∷ (0, 2, 0) ∷ (3, 2, 0) ∷ (3, 2, 2) ∷ (3, 2, 0) ∷ []) (ack 1 1 2 ∷ ack 1 4 5 ∷ [])
+unfolding draw_steps
 reader_drawn = record { legal = refl; lawful = refl; drawn = refl; acks = refl }
 
 -- ---- two removes, the second of an absent key
@@ -221,6 +232,7 @@ removed_twice = fresh (script (Put m k a ∷ Remove m k ∷ Remove m k ∷ Get m
     (says 1 1 Done ∷ says 1 2 Done ∷ says 1 3 Absent ∷ says 1 4 Absent ∷ []) (Some 4)
 
 removed_twice_drawn : IsExample removed_twice ((0, 1, 0) ∷ (0, 2, 0) ∷ (0, 2, 2) ∷ (0, 4, 0) ∷ []) (ack 1 1 2 ∷ ack 1 2 3 ∷ [])
+unfolding draw_steps
 removed_twice_drawn = record { legal = refl; lawful = refl; drawn = refl; acks = refl }
 
 -- ---- orders and a stock
@@ -233,10 +245,12 @@ orders = fresh
 
 orders_drawn : IsExample orders ((0, 1, 0) ∷ (2, 2, 0) ∷ (2, 2, 0) ∷ (2, 2, 0) ∷ (2, 2, 0) ∷ (0, 3, 0) ∷ (0, 3, 0) ∷ [])
     (ack 1 4 5 ∷ ack 1 6 6 ∷ [])
+unfolding draw_steps
 orders_drawn = record { legal = refl; lawful = refl; drawn = refl; acks = refl }
 
 orders_shows : maps_at 7 orders ≡ entry (codes "notes") (codes "order:1001") (codes "leave at door")
     ∷ entry (codes "orders") (codes "order:1001") (codes "{\"qty\":2}") ∷ entry (codes "stock") (codes "A-7") (codes "38") ∷ []
+unfolding draw_steps
 orders_shows = refl
 
 -- ---- an entry that is written again, and a snapshot
@@ -246,10 +260,12 @@ again = fresh (script (Put m a one ∷ Put m b two ∷ Snapshot ∷ []) ∷ [])
     (all_done 1 1 2 ++ says 1 3 (reply.Snapshot 1) ∷ reappends m a ∷ []) (Some 3)
 
 again_drawn : IsExample again ((0, 1, 0) ∷ (0, 2, 0) ∷ (0, 2, 0) ∷ (0, 2, 0) ∷ (0, 2, 2) ∷ []) (ack 1 1 2 ∷ ack 1 2 3 ∷ ack 1 3 3 ∷ [])
+unfolding draw_steps
 again_drawn = record { legal = refl; lawful = refl; drawn = refl; acks = refl }
 
 -- the mark stands before it
 again_actions : actions (drop 3 (log_of again)) ≡ action.Mark ∷ action.Compaction m a one ∷ []
+unfolding draw_steps
 again_actions = refl
 
 -- ---- three clients in a ring
@@ -264,6 +280,7 @@ three_clients = fresh
 
 three_clients_drawn : IsExample three_clients
     ((0, 1, 0) ∷ (2, 2, 0) ∷ (2, 2, 0) ∷ (4, 2, 0) ∷ (4, 2, 0) ∷ (6, 2, 0) ∷ (6, 2, 0) ∷ (6, 2, 0) ∷ (4, 2, 0) ∷ []) []
+unfolding draw_steps
 three_clients_drawn = record { legal = refl; lawful = refl; drawn = refl; acks = refl }
 
 -- before client 3's step client 1 waits for 2, client 2 for 3, and the ring comes back by 1
@@ -308,7 +325,9 @@ ended_finished = refl
 
 -- the acknowledgement that a client's last step asks for
 one_key_asked : last_asked 1 (draw_steps one_key) ≡ ack 1 6 7 ∷ []
+unfolding draw_steps
 one_key_asked = refl
 
 removed_twice_asked : last_asked 1 (draw_steps removed_twice) ≡ []
+unfolding draw_steps
 removed_twice_asked = refl

@@ -2,11 +2,11 @@
 use Rattle.std.proofs.Common.{◌≡◌, ⊎_elim, ℕ, zero, suc, ◌<◌, Bool, true, false, cond, ◌&&◌}
 use Rattle.std.proofs.Common.{◌==◌, List, [], ◌∷◌, Option, Some, None, length, refl, sym, ap, ◌∙◌, subst, arith}
 use Rattle.std.proofs.Common.{eqb-true, true≢false, option_map, is_some}
-use Rattle.std.specs.Prelude.{slice_get, slice_index_or, is_none}
+use Rattle.std.specs.Prelude.{slice_index_or, is_none}
 use Rattle.std.specs.List.{list_any}
-use Rattle.std.proofs.lemmas.Bool.{and_parts, cases_lt, or_left, or_right, false_from_ne_true, not-true}
+use Rattle.std.proofs.lemmas.Bool.{and_parts, or_left, or_right, false_from_ne_true, not-true}
 use Rattle.std.proofs.lemmas.List.{set-get_or, get_or_past}
-use Rattle.std.proofs.lemmas.Option.{same_Some, slice_get_within}
+use Rattle.std.proofs.lemmas.Option.{same_Some}
 use Rattle.std.proofs.lemmas.Slice.Eq.{bytes_eq-Decides}
 use Rattle.frs_types.specs.declared.lock.Lock.{Lock}
 use Rattle.frs_types.specs.declared.lock.Lock.TheVariants.{OnKey}
@@ -34,6 +34,7 @@ use Rattle.frs_book.proofs.Unhindered.{free_of_all}
 use Rattle.frs_book.proofs.LogEffects.{agrees_idle, agrees_compacted, agrees_marked}
 use Rattle.frs_book.proofs.LawfulDraws.{lawful_compaction, lawful_mark}
 use Rattle.frs_book.proofs.CommandSteps.{IsStep, Keeps, outcome_keeps, abandon_step}
+use Rattle.frs_book.proofs.NextEvents.{has_script, has_client}
 
 -- ---- lists
 
@@ -72,25 +73,6 @@ module _ (scripts : Scripts) (s : State) (d : Drawing) (agrees : Agreement scrip
       → IsStep scripts s d c (action_by s.maps (option_map (λ (l : Line). l.command) o) w)
       (commits_by (client s c).tx (option_map (λ (l : Line). l.command) o) w) t
 
-  -- ---- who has a next line
-
-  has_script : (c : ℕ) (line : Line) → next_line scripts s c ≡ Some line → c < suc (length scripts)
-  has_script c line is = ⊎_elim
-      (λ lt. lt)
-      (λ le.
-      let none = ap (λ ls. slice_get ls (client s c).done) (get_or_past ([] ∷ scripts) c [] le) in
-      let lt = slice_get_within [] (client s c).done line (sym none ∙ is) in
-      absurd (omega arith))
-      (cases_lt c (suc (length scripts)))
-
-  has_client : (c : ℕ) → is_active (client s c).tx ≡ true → c < suc (length scripts)
-  has_client c active = ⊎_elim
-      (λ lt. lt)
-      (λ le.
-      let none = ap (λ (x : Client). is_active x.tx) (get_or_past s.clients c newcomer (omega (arith, le, agrees.clients))) in
-      absurd (true≢false (sym active ∙ none)))
-      (cases_lt c (suc (length scripts)))
-
   -- ---- an answer
 
   answered_by : (c : ℕ) (x : Command) (r : Reply) (t : State) (within : c < suc (length scripts)) (o : Outcome)
@@ -114,7 +96,7 @@ module _ (scripts : Scripts) (s : State) (d : Drawing) (agrees : Agreement scrip
       → if_next number (λ x. if_answers r (outcome s c x)) o ≡ Some t → Step c o (what.Answered r) t
   answered_step c number r t None line is = absurd cc
   answered_step c number r t (Some l) line is =
-      let within = has_script c l line in
+      let within = has_script scripts s c l line in
       elim (l.number == number) as (λ b. cond b (if_answers r (outcome s c l.command)) None ≡ Some t
       → has_words_if (action_by s.maps (Some l.command) (what.Answered r)) ≡ true → IsStep scripts s d c (action_by s.maps (Some l.command) (what.Answered r)) (commits_by (client s c).tx (Some l.command) (what.Answered r)) t) [
         | true ↦ λ now. answered_by c l.command r t within (outcome s c l.command)
@@ -157,7 +139,7 @@ module _ (scripts : Scripts) (s : State) (d : Drawing) (agrees : Agreement scrip
       elim (l.number == number) as (λ b. cond b (if_waits s c (outcome s c l.command)) None ≡ Some t
       → true ≡ true → IsStep scripts s d c None (commits_by (client s c).tx (Some l.command) what.Waits) t) [
         | true ↦ λ now _. subst (λ cs. IsStep scripts s d c None cs t) (sym (waits_commits (client s c).tx (Some l.command)))
-            (waits_by c (Some l.command) t (has_script c l line) (outcome s c l.command) now)
+            (waits_by c (Some l.command) t (has_script scripts s c l line) (outcome s c l.command) now)
         | false ↦ λ never. absurd cc
       ] is
 
@@ -182,7 +164,7 @@ module _ (scripts : Scripts) (s : State) (d : Drawing) (agrees : Agreement scrip
             let parts = and_parts ((number == 0) && is_none o) (is_active (client s c).tx) all in
             let none = (and_parts (number == 0) (is_none o) parts.0).1 in
             at_end o none (subst (IsStep scripts s d c (Some action.Abandon) (commits_by (client s c).tx None what.End)) (same_Some _ _ now)
-            (end_by c (has_client c parts.1) (client s c).tx refl parts.1))
+            (end_by c (has_client scripts s c agrees.clients parts.1) (client s c).tx refl parts.1))
         | false ↦ λ _ never. absurd cc
       ] refl is
     where

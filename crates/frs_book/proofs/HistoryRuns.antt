@@ -5,7 +5,7 @@ use Rattle.std.proofs.Common.{take, drop, flat_map, take-append-drop, unwrap_or}
 use Rattle.std.specs.Prelude.{nat_le, replicate, option_and_then, slice_index_or}
 use Rattle.std.specs.List.{cons_option}
 use Rattle.std.proofs.lemmas.Bool.{and_from, cases_lt, le-leb, lt-leb}
-use Rattle.std.proofs.lemmas.List.{length-replicate, get_or-replicate, get_or_past}
+use Rattle.std.proofs.lemmas.List.{length-append, length-replicate, get_or-replicate, get_or_past}
 use Rattle.std.proofs.lemmas.List.Folds.{flat_map-map}
 use Rattle.std.proofs.lemmas.Grind.{flat_map-append}
 use Rattle.std.proofs.lemmas.List.Sums.{sum_by-cons}
@@ -23,7 +23,8 @@ use Rattle.frs_history.specs.Machine.{Changes, State, Scripts, newcomer}
 use Rattle.frs_history.specs.Histories.{Moment, moment, moments, commits_of, next, run}
 use Rattle.frs_book.specs.Drawn.{SessionHistory, Drawing, DrawStep, begin_of, record_for, after_draw, client_of, drawn_action, action_at}
 use Rattle.frs_book.specs.Drawn.{draw_step, draw_steps_from, drawing_after, with_closing, records_of, commits_at}
-use Rattle.frs_book.specs.Drawn.{commits_among, moments_of, opened, drawn_records, commits_in, commits_up_to}
+use Rattle.frs_book.specs.Drawn.{commits_among, moments_of, opened, draw_steps, drawn_records, drawing_of, commits_in}
+use Rattle.frs_book.specs.Drawn.{commits_up_to}
 use Rattle.frs_book.specs.Agreement.{IsDrawnBy, Agreement, AreWorded, is_quiet, may_close, begun, IsSession, IsShown}
 use Rattle.frs_book.specs.Agreement.{Keeps, IsLawfulDraw, has_words_if}
 use Rattle.frs_book.proofs.CommandSteps.{IsStep}
@@ -56,6 +57,9 @@ pub record IsRun (scripts : Scripts) (s : State) (d : Drawing) (ms : List (Optio
   pub shown : (n : ℕ) → d.log.next ≤ n + 1
       → plain_maps (state_after d.log (take (n + 1 - d.log.next) (records_of (draw_steps_from d ms)))).entries
       ≡ After (plain_maps d.log.entries) (flat_map commits_at ms) (commits_among (draw_steps_from d ms) n)
+  pub rises : d.log.next ≤ (drawing_after d ms).log.next
+  pub early : (n : ℕ) → n + 1 ≤ d.log.next → commits_among (draw_steps_from d ms) n ≡ 0
+  pub all : (n : ℕ) → (drawing_after d ms).log.next ≤ n + 1 → commits_among (draw_steps_from d ms) n ≡ length (flat_map commits_at ms)
 
 run_none : (scripts : Scripts) (s : State) (d : Drawing) → Agreement scripts s d → IsRun scripts s d [] s
 run_none scripts s d agrees = record {
@@ -63,6 +67,9 @@ run_none scripts s d agrees = record {
   log = refl;
   lawful = refl;
   shown = λ n le. ap (λ rs. plain_maps (state_after d.log rs).entries) (take_of_none (n + 1 - d.log.next));
+  rises = omega arith;
+  early = λ n le. refl;
+  all = λ n le. refl;
 }
 
 -- before the next LSN nothing of what is still drawn counts
@@ -159,16 +166,61 @@ module _ (scripts : Scripts) (s : State) (d : Drawing) (agrees : Agreement scrip
       ∙ sym (ap counted (le-leb d.log.next n ge)))
       (cases_lt n d.log.next)
 
+  rises_by : (a : Option Action) → IsRun scripts u (after_draw d (client_of m) a) ms t
+      → d.log.next ≤ (drawing_after (after_draw d (client_of m) a) ms).log.next
+  rises_by None rest = rest.rises
+  rises_by (Some a) rest = omega (arith, rest.rises, next_more a)
+
+  -- nothing is committed without a record, so up to the last LSN before these steps nothing counts
+  early_by : (a : Option Action) → IsStep scripts s d (client_of m) a (commits_at m) u
+      → IsRun scripts u (after_draw d (client_of m) a) ms t → (n : ℕ) → n + 1 ≤ d.log.next → count_by a n ≡ 0
+  early_by None step rest n le =
+      let none : commits_among (rest_of None) n ≡ 0 = rest.early n le in
+      ap (λ cs. cond (nat_le (d.log.next - 1) n) (length cs) 0 + commits_among (rest_of None) n) (step.idle refl)
+      ∙ by_test (nat_le (d.log.next - 1) n) none
+    where
+      by_test : (b : Bool) → commits_among (rest_of None) n ≡ 0 → cond b (length {A = Changes} []) 0 + commits_among (rest_of None) n ≡ 0
+      by_test true none = omega (arith, none)
+      by_test false none = omega (arith, none)
+  early_by (Some a) step rest n le =
+      let none : commits_among (rest_of (Some a)) n ≡ 0 = rest.early n (omega (arith, le, next_more a)) in
+      let sum : 0 + commits_among (rest_of (Some a)) n ≡ 0 = omega (arith, none) in
+      ap (λ b. cond b (length (commits_at m)) 0 + commits_among (rest_of (Some a)) n) (lt-leb d.log.next n (omega (arith, le))) ∙ sum
+
+  all_by : (a : Option Action) → IsRun scripts u (after_draw d (client_of m) a) ms t → (n : ℕ)
+      → (drawing_after (after_draw d (client_of m) a) ms).log.next ≤ n + 1
+      → count_by a n ≡ length (commits_at m ++ flat_map commits_at ms)
+  all_by None rest n le =
+      let later : commits_among (rest_of None) n ≡ length (flat_map commits_at ms) = rest.all n le in
+      let both : length (commits_at m ++ flat_map commits_at ms) ≡ length (commits_at m) + length (flat_map commits_at ms) =
+      length-append (commits_at m) (flat_map commits_at ms) in
+      let sum : length (commits_at m) + commits_among (rest_of None) n ≡ length (commits_at m ++ flat_map commits_at ms) =
+      omega (arith, later, both) in
+      ap (λ b. cond b (length (commits_at m)) 0 + commits_among (rest_of None) n)
+      (le-leb (d.log.next - 1) n (omega (arith, le, rest.rises))) ∙ sum
+  all_by (Some a) rest n le =
+      let later : commits_among (rest_of (Some a)) n ≡ length (flat_map commits_at ms) = rest.all n le in
+      let both : length (commits_at m ++ flat_map commits_at ms) ≡ length (commits_at m) + length (flat_map commits_at ms) =
+      length-append (commits_at m) (flat_map commits_at ms) in
+      let sum : length (commits_at m) + commits_among (rest_of (Some a)) n ≡ length (commits_at m ++ flat_map commits_at ms) =
+      omega (arith, later, both) in
+      ap (λ b. cond b (length (commits_at m)) 0 + commits_among (rest_of (Some a)) n)
+      (le-leb d.log.next n (omega (arith, le, rest.rises, next_more a))) ∙ sum
+
+  summed : (n : ℕ) → commits_among (draw_steps_from d (m ∷ ms)) n ≡ count_by (drawn_action m) n
+  summed n = sum_by-cons (λ (k : DrawStep). cond (nat_le k.lsn n) (length (commits_at k.moment)) 0) (draw_step d m)
+      (rest_of (drawn_action m))
+
   pub run_more : IsStep scripts s d (client_of m) (drawn_action m) (commits_at m) u
       → IsRun scripts u (after_draw d (client_of m) (drawn_action m)) ms t → IsRun scripts s d (m ∷ ms) t
   run_more step rest = record {
     agrees = rest.agrees;
     log = log_by (drawn_action m) rest.log;
     lawful = lawful_by (drawn_action m) step.lawful rest.lawful;
-    shown = λ n le. shown_by (drawn_action m) step rest n le
-        ∙ ap (After plain (flat_map commits_at (m ∷ ms)))
-        (sym (sum_by-cons (λ (t : DrawStep). cond (nat_le t.lsn n) (length (commits_at t.moment)) 0) (draw_step d m)
-        (rest_of (drawn_action m))));
+    shown = λ n le. shown_by (drawn_action m) step rest n le ∙ ap (After plain (flat_map commits_at (m ∷ ms))) (sym (summed n));
+    rises = rises_by (drawn_action m) rest;
+    early = λ n le. summed n ∙ early_by (drawn_action m) step rest n le;
+    all = λ n le. summed n ∙ all_by (drawn_action m) rest n le;
   }
 
 -- ---- events one behind the other
@@ -245,7 +297,7 @@ module _ (scripts : Scripts) where
 
 -- ---- the start
 
-same_everywhere : {X : Type 0} (n i : ℕ) (x : X) → slice_index_or (x ∷ replicate n x) i x ≡ x
+pub same_everywhere : {X : Type 0} (n i : ℕ) (x : X) → slice_index_or (x ∷ replicate n x) i x ≡ x
 same_everywhere n zero x = refl
 same_everywhere n (suc i) x = ⊎_elim
     (λ lt. get_or-replicate n i x x lt)
@@ -284,6 +336,7 @@ commits_with_closing (Some place) ms =
 module _ (h : SessionHistory) (is : IsSession h) where
   legal_run : (o : Option State) → run h.scripts (begun h) h.events ≡ o → is_some o ≡ true
       → (t : State) × IsRun h.scripts (begun h) (opened h) (with_closing h.closing (moments_of h)) t
+  unfolding draw_steps
   legal_run None ends some = absurd cc
   legal_run (Some t) ends some = (t, session_run h.scripts h.closing h.events (begun h) t (opened h) (agrees_at_start h is) ends is.closing is.words)
 
@@ -293,6 +346,7 @@ module _ (h : SessionHistory) (is : IsSession h) where
   shows_commits : (n : ℕ) → h.opening ≤ n
       → plain_maps (state_after (opened h).log (take (n - h.opening) (drawn_records h))).entries
       ≡ After (plain_maps h.entries) (commits_in h) (commits_up_to h n)
+  unfolding draw_steps
   shows_commits n le =
       let same : n - h.opening ≡ n + 1 - (h.opening + 1) = omega (arith, le) in
       ap (λ k. plain_maps (state_after (opened h).log (take k (drawn_records h))).entries) same
@@ -306,11 +360,14 @@ module _ (h : SessionHistory) (is : IsSession h) where
 
   -- What is drawn in a session is lawful, and shows its commits.
   pub session_is_shown : IsShown h
+  unfolding draw_steps drawing_of
   session_is_shown = record {
     agrees = λ t ends. (session_run h.scripts h.closing h.events (begun h) t (opened h) (agrees_at_start h is) ends is.closing is.words).agrees;
     log = whole_run.1.log;
     lawful = whole_run.1.lawful;
     maps = shows_commits;
+    early = λ n le. whole_run.1.early n (omega (arith, le));
+    all = λ n le. whole_run.1.all n le ∙ ap length (commits_with_closing h.closing (moments_of h));
     behind_mark = λ s mark n entries next kind le.
         ap (λ l. plain_maps (state_after l (take (n - h.opening) (drawn_records h))).entries) (behind_opening s mark entries next kind)
         ∙ shows_commits n le;

@@ -2,6 +2,7 @@ pub mod BookGoesOn
 pub mod ClientChanges
 pub mod CommandSteps
 pub mod DrawnExamples
+pub mod DrawnTransactions
 pub mod EachStored
 pub mod EventSteps
 pub mod HistoryRuns
@@ -9,6 +10,9 @@ pub mod LawfulDraws
 pub mod LogEffects
 pub mod LowestOfBook
 pub mod NewestChange
+pub mod NextEvents
 pub mod OneMoreEvent
+pub mod OwnLsns
 pub mod Positions
+pub mod ScriptPlaces
 pub mod Unhindered

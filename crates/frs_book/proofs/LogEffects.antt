@@ -73,7 +73,7 @@ module _ (scripts : Scripts) (s : State) (d : Drawing) (agrees : Agreement scrip
   pub begin_below : (e : ℕ) → begin_of d e < d.log.next
   begin_below e = below_by (begin_of d e) (client s e).tx (holder_at s.holders e) (agrees.drawn e)
 
-  none_open_from : (n : ℕ) → d.log.next ≤ n → (active : List Open) → AllByRecursion (IsOpenOf s d) active
+  pub none_open_from : (n : ℕ) → d.log.next ≤ n → (active : List Open) → AllByRecursion (IsOpenOf s d) active
       → is_open_tx active n ≡ false
   none_open_from n le [] all = refl
   none_open_from n le (o ∷ active) all =

@@ -9,7 +9,8 @@ use Rattle.frs_types.specs.Maps.{Place, Table, at, table_after_all}
 use Rattle.frs_types.specs.Lawful.{StoredValue}
 use Rattle.frs_types.proofs.Changes as changes
 use Rattle.frs_types.proofs.Changes.{given, latest, at-table_after_all}
-use Rattle.frs_objects.specs.Objects.{change_by}
+use Rattle.frs_types.specs.declared.record.Entry.{Entry}
+use Rattle.frs_objects.specs.Objects.{change_by, entry_of, entry_at}
 use Rattle.frs_objects.specs.declared.op.Op.TheVariants.{Put, Remove, Delete}
 use Rattle.frs_objects.specs.declared.op.Op.{Op}
 use Rattle.frs_book.specs.declared.change_index.MapChanges.{MapChanges}
@@ -82,3 +83,17 @@ newest_is_latest p (op ∷ ops) =
 -- What the table has at a place after the changes is what they let a transaction see there.
 pub at_after_changes : (t : Table StoredValue) (ops : List Op) (p : Place) → at (table_after_all t (map change_by ops)) p ≡ seen_over ops p (at t p)
 at_after_changes t ops p = at-table_after_all p (map change_by ops) t ∙ ap (λ o. unwrap_or o (at t p)) (sym (newest_is_latest p ops))
+
+-- The same, where the newest change of the place is known.
+pub at_found : (t : Table StoredValue) (ops : List Op) (p : Place) (o : Option Op) → o ≡ newest_touching ops p
+    → at (table_after_all t (map change_by ops)) p ≡ unwrap_or (option_map left_by o) (at t p)
+at_found t ops p o is = at_after_changes t ops p ∙ ap (λ f. unwrap_or (option_map left_by f) (at t p)) (sym is)
+
+-- what an entry has of a place is what stands there
+pub part_of_entry : {X : Type 0} (f : Entry → X) (g : StoredValue → X) (t : Table StoredValue) (p : Place) (o : Option Entry)
+    → ((h : StoredValue) → f (entry_of p h) ≡ g h) → o ≡ entry_at t p → option_map f o ≡ option_map g (at t p)
+part_of_entry f g t p o same is = ap (option_map f) is ∙ by_place (at t p)
+  where
+    by_place : (v : Option StoredValue) → option_map f (option_map (entry_of p) v) ≡ option_map g v
+    by_place None = refl
+    by_place (Some h) = ap (λ x. Some x) (same h)

@@ -99,10 +99,12 @@ module _ (h : SessionHistory) (e : Event) (t : State) (is : run h.scripts (begun
       ∙ closing_one_more place (moments_of h) its (omega (arith, count, le))
 
   pub draws_one_more : draw_steps (with_event h e) ≡ draw_steps h ++ draw_step (drawing_of h) (Some its) ∷ []
+  unfolding draw_steps drawing_of
   draws_one_more = ap (draw_steps_from (opened h)) (closed_by h.closing within)
       ∙ steps_one_more (with_closing h.closing (moments_of h)) (opened h) (Some its)
 
   pub drawing_with_event : drawing_of (with_event h e) ≡ after_draw (drawing_of h) e.client (drawn_action (Some its))
+  unfolding drawing_of
   drawing_with_event = ap (drawing_after (opened h)) (closed_by h.closing within)
       ∙ drawing_one_more (with_closing h.closing (moments_of h)) (opened h) (Some its)
 
@@ -134,9 +136,11 @@ module _ (h : SessionHistory) (open_still : h.closing ≡ None) where
       ∙ ap (λ c. with_closing c (moments_of h) ++ None ∷ []) (sym open_still)
 
   pub draws_mark : draw_steps (with_mark h) ≡ draw_steps h ++ draw_step (drawing_of h) None ∷ []
+  unfolding draw_steps drawing_of
   draws_mark = ap (draw_steps_from (opened h)) closed_at_end ∙ steps_one_more (with_closing h.closing (moments_of h)) (opened h) None
 
   pub drawing_with_mark : drawing_of (with_mark h) ≡ after_draw (drawing_of h) 0 (drawn_action None)
+  unfolding drawing_of
   drawing_with_mark = ap (drawing_after (opened h)) closed_at_end ∙ drawing_one_more (with_closing h.closing (moments_of h)) (opened h) None
 
   pub records_with_mark : drawn_records (with_mark h) ≡ drawn_records h ++ option_to_list (draw_step (drawing_of h) None).drawn

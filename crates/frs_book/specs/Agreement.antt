@@ -117,7 +117,8 @@ pub record Keeps (scripts : Scripts) (d : Drawing) (m : Option Moment) (after : 
   pub agrees : Agreement scripts after (after_draw d (client_of m) (drawn_action m))
   pub lawful : IsLawfulDraw d (client_of m) (drawn_action m)
 
--- What is drawn is lawful, it agrees with the machine, and the records up to an LSN show the commits up to it.
+-- What is drawn is lawful, it agrees with the machine, and the records up to an LSN show the commits up to it. Up to the
+-- opening mark these are none, and up to the last record all.
 pub record IsShown (h : SessionHistory) : Type 0 where
   pub agrees : (t : State) → run h.scripts (begun h) h.events ≡ Some t → Agreement h.scripts t (drawing_of h)
   pub log : (drawing_of h).log ≡ log_state_of h
@@ -125,6 +126,8 @@ pub record IsShown (h : SessionHistory) : Type 0 where
   pub maps : (n : ℕ) → h.opening ≤ n
       → plain_maps (state_after (opened h).log (take (n - h.opening) (drawn_records h))).entries
       ≡ After (plain_maps h.entries) (commits_in h) (commits_up_to h n)
+  pub early : (n : ℕ) → n ≤ h.opening → commits_up_to h n ≡ 0
+  pub all : (n : ℕ) → (drawing_of h).log.next ≤ n + 1 → commits_up_to h n ≡ length (commits_in h)
   pub behind_mark : (s : LogState) (mark : Record) (n : ℕ) → s.entries ≡ h.entries → s.next ≡ h.opening
       → mark.action ≡ Mark → h.opening ≤ n
       → plain_maps (state_after s (mark ∷ take (n - h.opening) (drawn_records h))).entries

@@ -211,7 +211,7 @@ StepAnswers old c before (step.LogFull full) new after =
 StepAnswers old c before (step.NoRoom drawn known_taken) new after =
     IsToDraw old c × (next_drawn old.drawer ≢ NUMBER_LIMIT) × (drawn ≡ length old.drawer.drawn)
     × (known_taken ≡ new.drawer.known_taken) × (outstanding new.drawer ≡ new.drawer.capacity)
-    × SameBook old new × (after ≡ before)
+    × SameBook old new × HasLooked old.drawer new.drawer × (after ≡ before)
 StepAnswers old c before step.Memory new after =
     (is_finished old.session.scripts old.state c ≡ false) × SameBook old new × (after ≡ before)
 
@@ -236,7 +236,8 @@ MarkAnswers old before (marked.LogFull full) new after =
     (full ≡ NUMBER_LIMIT) × (next_drawn old.drawer ≡ NUMBER_LIMIT) × (new ≡ old) × (after ≡ before)
 MarkAnswers old before (marked.NoRoom drawn known_taken) new after =
     (next_drawn old.drawer ≢ NUMBER_LIMIT) × (drawn ≡ length old.drawer.drawn) × (known_taken ≡ new.drawer.known_taken)
-    × (outstanding new.drawer ≡ new.drawer.capacity) × SameBook old new × (after ≡ before)
+    × (outstanding new.drawer ≡ new.drawer.capacity) × SameBook old new × HasLooked old.drawer new.drawer
+    × (after ≡ before)
 
 -- ---- acknowledgements
 

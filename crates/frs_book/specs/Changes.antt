@@ -1,5 +1,6 @@
 -- The changes of a transaction, and where the newest one of each key stands among them.
-use Rattle.std.specs.Prelude.{◌≡◌, ◌<◌, ℕ, Bool, List, reverse, length, Option, Some, None, option_map, unwrap_or, slice_get}
+use Rattle.std.specs.Prelude.{◌≡◌, ◌<◌, ℕ, Bool, true, false, List, reverse, length, Option, Some, None, is_some}
+use Rattle.std.specs.Prelude.{option_map, unwrap_or, slice_get}
 use Rattle.std.specs.Option.{option_or}
 use Rattle.std.specs.List.{find}
 use Rattle.std.specs.BTreeMap.{BTreeMap, get}
@@ -35,8 +36,13 @@ seen_over ops p committed = unwrap_or (option_map left_by (newest_touching ops p
 
 -- ---- positions
 
+-- the position of a key that may have a place
+abbrev pub position_by : Option (Option ℕ) → Option ℕ
+position_by None = None
+position_by (Some position) = position
+
 abbrev pub position_in : MapChanges → List ℕ → Option ℕ
-position_in m key = option_or (get (slice_cmp nat_cmp) m.keys key) m.deleted
+position_in m key = option_or (position_by (get (slice_cmp nat_cmp) m.keys key)) m.deleted
 
 abbrev pub position_of : Option MapChanges → List ℕ → Option ℕ
 position_of None key = None
@@ -53,3 +59,15 @@ IsFoundAt ops (Some n) found = (n < length ops) × (slice_get ops n ≡ found)
 -- the newest change of each place stands where the index says
 abbrev pub IsIndexed : List Op → BTreeMap (List ℕ) MapChanges → Type 0
 IsIndexed ops maps = (p : Place) → IsFoundAt ops (position_at maps p) (newest_touching ops p)
+
+-- ---- places for positions
+
+abbrev pub has_key : Option MapChanges → List ℕ → Bool
+has_key None key = false
+has_key (Some m) key = is_some (get (slice_cmp nat_cmp) m.keys key)
+
+-- there is a place for the position of the change: its key's, or its map's
+abbrev pub has_place : BTreeMap (List ℕ) MapChanges → Op → Bool
+has_place maps (Put id key value lsn) = has_key (get (slice_cmp nat_cmp) maps id) key
+has_place maps (Remove id key) = has_key (get (slice_cmp nat_cmp) maps id) key
+has_place maps (Delete id) = is_some (get (slice_cmp nat_cmp) maps id)

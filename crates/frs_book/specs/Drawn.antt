@@ -142,7 +142,7 @@ opened h = record {
   begins = 0 ∷ replicate (length h.scripts) 0;
 }
 
-abbrev pub draw_steps : SessionHistory → List DrawStep
+unfoldable pub draw_steps : SessionHistory → List DrawStep
 draw_steps h = draw_steps_from (opened h) (with_closing h.closing (moments_of h))
 
 -- the records of steps
@@ -158,7 +158,7 @@ abbrev pub log_state_of : SessionHistory → LogState
 log_state_of h = state_after (opened h).log (drawn_records h)
 
 -- the same, with the clients' begins
-abbrev pub drawing_of : SessionHistory → Drawing
+unfoldable pub drawing_of : SessionHistory → Drawing
 drawing_of h = drawing_after (opened h) (with_closing h.closing (moments_of h))
 
 -- the lists of changes that the session commits, in order

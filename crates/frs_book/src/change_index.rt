@@ -1,11 +1,11 @@
 //! Where the newest change of each key stands among the changes of a transaction.
-ghost use Rattle.std.specs.Prelude.{◌≡◌, ℕ, List, Some, None, cond, OnOk, OnErr};
+ghost use Rattle.std.specs.Prelude.{◌≡◌, ℕ, List, Some, None, true, is_some, cond, OnOk};
 ghost use Rattle.std.specs.BTreeMap.{get};
 ghost use Rattle.std.specs.Ordering.{nat_cmp};
 ghost use Rattle.std.specs.Cmp.Lexicographic.{slice_cmp};
 ghost use Rattle.std.specs.Str.{bytes_eq};
 ghost use Rattle.frs_types.specs.Maps.{Place, same_place};
-ghost use Rattle.frs_book.specs.Changes.{touches, position_at, position_in};
+ghost use Rattle.frs_book.specs.Changes.{touches, position_at, position_in, has_key, has_place};
 
 use frs_objects::Op;
 use frs_types::{Key, MapId, NoMemory};
@@ -13,10 +13,11 @@ use std::alloc::Global;
 use std::collections::BTreeMap;
 
 /// The changes of one map, each as its position: its last delete, and for each key the last put or remove behind that.
+/// A key may have a place before it has a position.
 #[derive(Drop)]
 pub struct MapChanges {
     pub deleted: Option<usize>,
-    pub keys: BTreeMap<Key, usize>,
+    pub keys: BTreeMap<Key, Option<usize>>,
 }
 
 /// The position of the newest change of each key, map by map.
@@ -26,19 +27,45 @@ pub struct ChangeIndex {
 }
 
 impl MapChanges {
-    // Notes the newest change of a key.
-    fn note_key(&mut self, alloc: Global, key: &Key, position: usize) -> Result<(), NoMemory>
-        ensures noted { OnOk result ((k : List ℕ) → position_in self.new k
-            ≡ cond (bytes_eq key.now k) (Some position) (position_in self.old k)) }
-        ensures refused { OnErr result ((k : List ℕ) → position_in self.new k
-            ≡ position_in self.old k) }
+    // No changes.
+    fn new(alloc: Global) -> MapChanges
+        ensures { (k : List ℕ) → position_in result k ≡ None }
     {
-        if let Some(newest) = self.keys.get_mut(key) {
-            *newest = position;
+        MapChanges {
+            deleted: None,
+            keys: BTreeMap::new(alloc),
+        }
+    }
+
+    // Makes a place for a key. The positions stay, whatever it answers.
+    fn make_place(&mut self, alloc: Global, key: &Key) -> Result<(), NoMemory>
+        ensures made { OnOk result (has_key (Some self.new) key.now ≡ true) }
+        ensures stay { (k : List ℕ) → position_in self.new k ≡ position_in self.old k }
+    {
+        if self.keys.contains_key(key) {
             return Ok(());
         }
-        self.keys.insert(key.copy(alloc)?, position)?;
+        self.keys.insert(key.copy(alloc)?, None)?;
         Ok(())
+    }
+
+    // Notes the newest change of a key, which has a place.
+    fn note_key(&mut self, key: &Key, position: usize)
+        requires { has_key (Some self.old) key.now ≡ true }
+        ensures { (k : List ℕ) → position_in self.new k
+            ≡ cond (bytes_eq key.now k) (Some position) (position_in self.old k) }
+    {
+        if let Some(newest) = self.keys.get_mut(key) {
+            *newest = Some(position);
+        }
+    }
+
+    // Notes that a delete is the newest change of each key.
+    fn note_delete(&mut self, position: usize)
+        ensures { (k : List ℕ) → position_in self.new k ≡ Some position }
+    {
+        self.deleted = Some(position);
+        self.keys.clear();
     }
 }
 
@@ -60,66 +87,83 @@ impl ChangeIndex {
             return None;
         };
         match map.keys.get(key) {
-            Some(position) => Some(*position),
-            None => map.deleted,
+            Some(Some(position)) => Some(*position),
+            _ => map.deleted,
         }
     }
 
-    /// Notes that the change at a position is the newest of each key that it touches.
-    pub fn note(&mut self, alloc: Global, op: &Op, position: usize) -> Result<(), NoMemory>
-        ensures noted { OnOk result ((p : Place) → position_at self.new.maps p
-            ≡ cond (touches p op.now) (Some position) (position_at self.old.maps p)) }
-        ensures refused { OnErr result ((p : Place) → position_at self.new.maps p
-            ≡ position_at self.old.maps p) }
+    /// Makes a place for the position of a change. The positions stay, whatever it answers.
+    pub fn make_place(&mut self, alloc: Global, op: &Op) -> Result<(), NoMemory>
+        ensures made { OnOk result (has_place self.new.maps op.now ≡ true) }
+        ensures stay { (p : Place) → position_at self.new.maps p ≡ position_at self.old.maps p }
     {
         match op {
-            Op::Put { id, key, .. } => self.note_key(alloc, id, key, position),
-            Op::Remove { id, key } => self.note_key(alloc, id, key, position),
-            Op::Delete { id } => self.note_map(alloc, id, position),
+            Op::Put { id, key, .. } => self.make_key(alloc, id, key),
+            Op::Remove { id, key } => self.make_key(alloc, id, key),
+            Op::Delete { id } => self.make_map(alloc, id),
         }
     }
 
-    // Notes the newest change of a key.
-    fn note_key(
-        &mut self,
-        alloc: Global,
-        id: &MapId,
-        key: &Key,
-        position: usize,
-    ) -> Result<(), NoMemory>
-        ensures noted { OnOk result ((p : Place) → position_at self.new.maps p
-            ≡ cond (same_place (id.now, key.now) p) (Some position) (position_at self.old.maps p)) }
-        ensures refused { OnErr result ((p : Place) → position_at self.new.maps p
-            ≡ position_at self.old.maps p) }
+    // Makes a place for a key.
+    fn make_key(&mut self, alloc: Global, id: &MapId, key: &Key) -> Result<(), NoMemory>
+        ensures made { OnOk result
+            (has_key (get (slice_cmp nat_cmp) self.new.maps id.now) key.now ≡ true) }
+        ensures stay { (p : Place) → position_at self.new.maps p ≡ position_at self.old.maps p }
     {
         if let Some(map) = self.maps.get_mut(id) {
-            return map.note_key(alloc, key, position);
+            return map.make_place(alloc, key);
         }
-        let mut map = MapChanges {
-            deleted: None,
-            keys: BTreeMap::new(alloc),
-        };
-        map.note_key(alloc, key, position)?;
+        let mut map = MapChanges::new(alloc);
+        map.make_place(alloc, key)?;
         self.maps.insert(id.copy(alloc)?, map)?;
         Ok(())
     }
 
-    // Notes the newest change of each key of a map.
-    fn note_map(&mut self, alloc: Global, id: &MapId, position: usize) -> Result<(), NoMemory>
-        ensures noted { OnOk result ((p : Place) → position_at self.new.maps p
-            ≡ cond (bytes_eq id.now p.0) (Some position) (position_at self.old.maps p)) }
-        ensures refused { OnErr result ((p : Place) → position_at self.new.maps p
-            ≡ position_at self.old.maps p) }
+    // Makes a place for a map.
+    fn make_map(&mut self, alloc: Global, id: &MapId) -> Result<(), NoMemory>
+        ensures made { OnOk result (is_some (get (slice_cmp nat_cmp) self.new.maps id.now) ≡ true) }
+        ensures stay { (p : Place) → position_at self.new.maps p ≡ position_at self.old.maps p }
     {
-        let deleted = MapChanges {
-            deleted: Some(position),
-            keys: BTreeMap::new(alloc),
-        };
-        if let Some(map) = self.maps.get_mut(id) {
-            *map = deleted;
+        if self.maps.contains_key(id) {
             return Ok(());
         }
-        self.maps.insert(id.copy(alloc)?, deleted)?;
+        let map = MapChanges::new(alloc);
+        self.maps.insert(id.copy(alloc)?, map)?;
         Ok(())
+    }
+
+    /// Notes that the change at a position is the newest of each key that it touches. It has a place. Takes no memory.
+    pub fn note(&mut self, op: &Op, position: usize)
+        requires { has_place self.old.maps op.now ≡ true }
+        ensures { (p : Place) → position_at self.new.maps p
+            ≡ cond (touches p op.now) (Some position) (position_at self.old.maps p) }
+    {
+        match op {
+            Op::Put { id, key, .. } => self.note_key(id, key, position),
+            Op::Remove { id, key } => self.note_key(id, key, position),
+            Op::Delete { id } => self.note_map(id, position),
+        }
+    }
+
+    // Notes the newest change of a key.
+    fn note_key(&mut self, id: &MapId, key: &Key, position: usize)
+        requires { has_key (get (slice_cmp nat_cmp) self.old.maps id.now) key.now ≡ true }
+        ensures { (p : Place) → position_at self.new.maps p
+            ≡ cond (same_place (id.now, key.now) p) (Some position) (position_at self.old.maps p) }
+    {
+        if let Some(map) = self.maps.get_mut(id) {
+            map.note_key(key, position);
+        }
+    }
+
+    // Notes the newest change of each key of a map.
+    fn note_map(&mut self, id: &MapId, position: usize)
+        requires { is_some (get (slice_cmp nat_cmp) self.old.maps id.now) ≡ true }
+        ensures { (p : Place) → position_at self.new.maps p
+            ≡ cond (bytes_eq id.now p.0) (Some position) (position_at self.old.maps p) }
+    {
+        if let Some(map) = self.maps.get_mut(id) {
+            map.note_delete(position);
+        }
     }
 }

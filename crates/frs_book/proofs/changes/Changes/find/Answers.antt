@@ -4,7 +4,7 @@ use Rattle.std.specs.Prelude.{slice_get, IfSome, get_or}
 use Rattle.std.proofs.lemmas.Option.{slice_get_read}
 use Rattle.frs_objects.specs.declared.op.Op.{Op}
 use Rattle.frs_types.specs.Maps.{Place}
-use Rattle.frs_book.specs.Changes.{IsFoundAt, position_at, newest_touching}
+use Rattle.frs_book.specs.Changes.{IsFoundAt, newest_touching}
 use Rattle.frs_book.proofs.changes.Changes.find.Goals as goal
 
 copied_is : (r : Option (Bor Op)) (ops : List Op) (n : ℕ) → n < length ops → IsSome r → IfSome r (λ x. x.now ≡ get_or ops n x.now) → option_copied r ≡ slice_get ops n
