@@ -1,0 +1,2 @@
+mod ContinuedLog
+mod RecoveredCommits
