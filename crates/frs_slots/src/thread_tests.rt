@@ -164,10 +164,11 @@ fn draw_shared(rt: &impl Wait, shared: &Mutex<Drawer>, records: Vec<Framed>) {
     }
 }
 
-// Draws 500 records in each of two threads, which share the drawer, and gives the taker back.
+// Draws 500 records in each of two threads, which share the drawer, and gives the taker back. No number of the one
+// thread is next to one of the other.
 fn from_two_threads<R: Threads + Wait + Sync>(rt: &R, alloc: Global) -> Result<Taker, NoMemory> {
     let low = records(alloc, 0, 500)?;
-    let high = records(alloc, 500, 500)?;
+    let high = records(alloc, 1_000, 500)?;
     let (drawer, taker) = ring(alloc, 1_024, 1)?;
     let shared = Mutex::new(drawer);
     let lock = &shared;
@@ -183,7 +184,7 @@ fn from_two_threads<R: Threads + Wait + Sync>(rt: &R, alloc: Global) -> Result<T
 fn threads_share_a_drawer_under_a_lock(rt: HostRuntime) -> Result<(), Fail> {
     let mut taker = from_two_threads(&rt, rt.alloc())?;
     let mut low = 0u64;
-    let mut high = 500u64;
+    let mut high = 1_000u64;
     for _ in 0..1_000 {
         let framed = taker.take()?;
         if has_number(&framed, low) {
@@ -192,7 +193,7 @@ fn threads_share_a_drawer_under_a_lock(rt: HostRuntime) -> Result<(), Fail> {
             high = high.saturating_add(1);
         }
     }
-    assert_eq!(rt; (low, high), (500, 1_000));
+    assert_eq!(rt; (low, high), (500, 1_500));
     assert_eq!(rt; taker.take().err(), Some(NotYet { known: 1_000 }));
     Ok(())
 }
