@@ -5,6 +5,7 @@ use Rattle.frs_types.specs.declared.record.Action.{Action}
 use Rattle.frs_types.specs.declared.record.Action.TheVariants.{Put, Remove, Delete, Begin, Commit, Compaction, Mark, Abandon}
 use Rattle.frs_types.specs.declared.record.Record.{Record}
 use Rattle.frs_frame.specs.declared.encoding.TheConstants.{RECORD_HEAD}
+use Rattle.frs_frame.specs.declared.kind.Kind.{Kind}
 use Rattle.frs_frame.specs.Kinds.{kind_of, code}
 
 -- the widths of the lengths that stand before words
@@ -35,6 +36,10 @@ payload Abandon = []
 -- the three numbers of the head: the transaction, the lowest and the named LSN
 abbrev pub numbers : ℕ → ℕ → ℕ → List ℕ
 numbers tx lowest named = to_be_bytes w64 tx ++ to_be_bytes w64 lowest ++ to_be_bytes w64 named
+
+-- the head of a record of that kind, with its three numbers 0
+abbrev pub blank_head : Kind → List ℕ
+blank_head kind = code kind ∷ numbers 0 0 0
 
 -- the bytes of a record
 unfoldable pub spelling : Record → List ℕ

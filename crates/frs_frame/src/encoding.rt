@@ -2,8 +2,8 @@
 ghost use Rattle.std.specs.Prelude.{◌≡◌, ◌+◌, ◌≤◌, ◌++◌, ℕ, length, take, drop, IfOk, OnOk};
 ghost use Rattle.std.specs.Int.{w64, to_be_bytes};
 ghost use Rattle.frs_types.specs.declared.record.Record.{Record};
-ghost use Rattle.frs_types.specs.declared.record.Action.TheVariants.{Abandon};
-ghost use Rattle.frs_frame.specs.Spelling.{word_bytes, id_width, key_width, value_width, payload, spelling, without_numbers, with_numbers};
+ghost use Rattle.frs_types.specs.declared.record.Action.TheVariants.{Put, Remove, Delete, Abandon};
+ghost use Rattle.frs_frame.specs.Spelling.{word_bytes, id_width, key_width, value_width, payload, blank_head, spelling, without_numbers, with_numbers};
 
 use crate::kind::Kind;
 use frs_types::{Action, ID_LIMIT, KEY_LIMIT, Key, MapId, NoMemory, VALUE_LIMIT, Value};
@@ -109,50 +109,92 @@ fn write_number(bytes: &mut [u8], at: usize, number: u64)
 pub fn encode_payload(alloc: Global, action: &Action) -> Result<Framed, NoMemory>
     ensures { IfOk result (λ framed. framed ≡ spelling (without_numbers action.now)) }
 {
-    let mut bytes = Vec::with_capacity(alloc, RECORD_HEAD + payload_len(action))?;
-    bytes.push(Kind::of(action).code())?;
-    bytes.extend_from_slice(&[0; RECORD_HEAD - 1])?;
-    add_payload(&mut bytes, action)?;
+    match action {
+        Action::Put { id, key, value } => encode_put(alloc, id, key, value),
+        Action::Remove { id, key } => encode_remove(alloc, id, key),
+        Action::Delete { id } => encode_delete(alloc, id),
+        Action::Compaction { id, key, value } => {
+            encode_value(alloc, Kind::Compaction, id, key, value)
+        }
+        Action::Begin => encode_kind(alloc, Kind::Begin),
+        Action::Commit => encode_kind(alloc, Kind::Commit),
+        Action::Mark => encode_kind(alloc, Kind::Mark),
+        Action::Abandon => encode_kind(alloc, Kind::Abandon),
+    }
+}
+
+/// What `encode_payload` gives for a put of these words. Each is copied once.
+#[tactic(auto, unfolding(crate::specs::Spelling::spelling))]
+pub fn encode_put(alloc: Global, id: &MapId, key: &Key, value: &Value) -> Result<Framed, NoMemory>
+    ensures { IfOk result (λ framed. framed
+        ≡ spelling (without_numbers (Put id.now key.now value.now))) }
+{
+    encode_value(alloc, Kind::Put, id, key, value)
+}
+
+/// What `encode_payload` gives for a remove of this key. Each word is copied once.
+#[tactic(auto, unfolding(crate::specs::Spelling::spelling))]
+pub fn encode_remove(alloc: Global, id: &MapId, key: &Key) -> Result<Framed, NoMemory>
+    ensures { IfOk result (λ framed. framed ≡ spelling (without_numbers (Remove id.now key.now))) }
+{
+    let len = ID_WIDTH + id.bytes().len() + KEY_WIDTH + key.bytes().len();
+    let mut bytes = head_of(alloc, Kind::Remove, len)?;
+    add_id(&mut bytes, id)?;
+    add_key(&mut bytes, key)?;
     Ok(Framed { bytes })
 }
 
-// The number of bytes behind the head.
-fn payload_len(action: &Action) -> usize
-    ensures is { result ≡ length (payload action.now) }
-    ensures most { result ≤ PAYLOAD_LIMIT }
+/// What `encode_payload` gives for a delete of this map. The id is copied once.
+#[tactic(auto, unfolding(crate::specs::Spelling::spelling))]
+pub fn encode_delete(alloc: Global, id: &MapId) -> Result<Framed, NoMemory>
+    ensures { IfOk result (λ framed. framed ≡ spelling (without_numbers (Delete id.now))) }
 {
-    match action {
-        Action::Put { id, key, value } | Action::Compaction { id, key, value } => {
-            ID_WIDTH
-                + id.bytes().len()
-                + KEY_WIDTH
-                + key.bytes().len()
-                + VALUE_WIDTH
-                + value.bytes().len()
-        }
-        Action::Remove { id, key } => ID_WIDTH + id.bytes().len() + KEY_WIDTH + key.bytes().len(),
-        Action::Delete { id } => ID_WIDTH + id.bytes().len(),
-        Action::Begin | Action::Commit | Action::Mark | Action::Abandon => 0,
-    }
+    let mut bytes = head_of(alloc, Kind::Delete, ID_WIDTH + id.bytes().len())?;
+    add_id(&mut bytes, id)?;
+    Ok(Framed { bytes })
 }
 
-// Adds what stands behind the head.
-fn add_payload(out: &mut Vec<u8>, action: &Action) -> Result<(), NoMemory>
-    ensures { OnOk result (out.new.items ≡ out.old.items ++ payload action.now) }
+// The bytes of a record of a kind that brings an id, a key and a value.
+fn encode_value(
+    alloc: Global,
+    kind: Kind,
+    id: &MapId,
+    key: &Key,
+    value: &Value,
+) -> Result<Framed, NoMemory>
+    ensures { IfOk result (λ framed. framed
+        ≡ blank_head kind ++ payload (Put id.now key.now value.now)) }
 {
-    match action {
-        Action::Put { id, key, value } | Action::Compaction { id, key, value } => {
-            add_id(out, id)?;
-            add_key(out, key)?;
-            add_value(out, value)
-        }
-        Action::Remove { id, key } => {
-            add_id(out, id)?;
-            add_key(out, key)
-        }
-        Action::Delete { id } => add_id(out, id),
-        Action::Begin | Action::Commit | Action::Mark | Action::Abandon => Ok(()),
-    }
+    let len = ID_WIDTH
+        + id.bytes().len()
+        + KEY_WIDTH
+        + key.bytes().len()
+        + VALUE_WIDTH
+        + value.bytes().len();
+    let mut bytes = head_of(alloc, kind, len)?;
+    add_id(&mut bytes, id)?;
+    add_key(&mut bytes, key)?;
+    add_value(&mut bytes, value)?;
+    Ok(Framed { bytes })
+}
+
+// The bytes of a record of a kind that brings nothing.
+fn encode_kind(alloc: Global, kind: Kind) -> Result<Framed, NoMemory>
+    ensures { IfOk result (λ framed. framed ≡ blank_head kind) }
+{
+    let bytes = head_of(alloc, kind, 0)?;
+    Ok(Framed { bytes })
+}
+
+// The kind and the three numbers, each 0, with room for so many bytes behind them.
+fn head_of(alloc: Global, kind: Kind, behind: usize) -> Result<Vec<u8>, NoMemory>
+    requires { behind ≤ PAYLOAD_LIMIT }
+    ensures { IfOk result (λ head. head.items ≡ blank_head kind) }
+{
+    let mut bytes = Vec::with_capacity(alloc, RECORD_HEAD + behind)?;
+    bytes.push(kind.code())?;
+    bytes.extend_from_slice(&[0; RECORD_HEAD - 1])?;
+    Ok(bytes)
 }
 
 // Adds an id: its length and its bytes.

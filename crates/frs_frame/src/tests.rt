@@ -99,6 +99,28 @@ fn each_kind(rt: HostRuntime) -> Result<(), Fail> {
 }
 
 #[test]
+fn borrowed_words(rt: HostRuntime) -> Result<(), Fail> {
+    let alloc = rt.alloc();
+    let id = MapId::new(alloc, b"m")?;
+    let key = Key::new(alloc, b"k")?;
+    let value = Value::new(alloc, b"v")?;
+    let mut put = encode_put(alloc, &id, &key, &value)?;
+    put.patch(0, 2, 0);
+    assert_eq!(&rt; put.bytes(), &PUT[..]);
+    let remove = encode_remove(alloc, &id, &key)?;
+    assert_eq!(&rt;
+        (remove.bytes()[0], &remove.bytes()[25..]),
+        (2, &PUT[25..29])
+    );
+    let delete = encode_delete(alloc, &id)?;
+    assert_eq!(&rt;
+        (delete.bytes()[0], &delete.bytes()[25..]),
+        (3, &PUT[25..27])
+    );
+    Ok(())
+}
+
+#[test]
 fn an_abandoned_put(rt: HostRuntime) -> Result<(), Fail> {
     let alloc = rt.alloc();
     let id = MapId::new(alloc, b"m")?;
