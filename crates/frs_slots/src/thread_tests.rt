@@ -26,7 +26,8 @@ fn records(alloc: Global, first: u64, count: u64) -> Result<Vec<Framed>, NoMemor
     let mut records = Vec::new(alloc);
     for place in 0..count {
         let number = first.saturating_add(count - 1 - place);
-        records.push(record(alloc, number)?)?;
+        let framed = record(alloc, number)?;
+        records.push(framed)?;
     }
     Ok(records)
 }
