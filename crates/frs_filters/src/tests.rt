@@ -8,6 +8,20 @@ use std::alloc::Global;
 use std::process::Abort;
 use std::test::Fail;
 
+// A record by its words, with its transaction and the LSN that it names: all but the mark are written while LSN 2 is the
+// lowest. Puts, removes and deletes are of the map m, a remove of its key k; `Again` is its entry a again, of value x.
+#[derive(Clone, Copy)]
+enum Written {
+    Mark,
+    Begin(u64),
+    Commit(u64),
+    Abandon(u64),
+    Put(u64, u64, &'static [u8], &'static [u8]),
+    Remove(u64, u64),
+    Delete(u64),
+    Again(u64),
+}
+
 // A record that was written while LSN 2 was the lowest.
 fn record(tx: u64, named: u64, action: Action) -> Record {
     Record {
@@ -55,6 +69,36 @@ fn again(alloc: Global, named: u64) -> Result<Record, WordFault> {
     let key = Key::new(alloc, b"a")?;
     let value = Value::new(alloc, b"x")?;
     Ok(record(0, named, Action::Compaction { id, key, value }))
+}
+
+// The record with words of its own.
+fn record_of(alloc: Global, written: Written) -> Result<Record, WordFault> {
+    match written {
+        Written::Mark => Ok(mark()),
+        Written::Begin(tx) => Ok(record(tx, 0, Action::Begin)),
+        Written::Commit(tx) => Ok(record(tx, 0, Action::Commit)),
+        Written::Abandon(tx) => Ok(record(tx, 0, Action::Abandon)),
+        Written::Put(tx, named, key, value) => put(alloc, tx, named, key, value),
+        Written::Remove(tx, named) => remove(alloc, tx, named),
+        Written::Delete(tx) => delete(alloc, tx),
+        Written::Again(named) => again(alloc, named),
+    }
+}
+
+// Adds the record to a log.
+fn write(alloc: Global, log: &mut Vec<Record>, written: Written) -> Result<(), Fail> {
+    let record = record_of(alloc, written)?;
+    log.push(record)?;
+    Ok(())
+}
+
+// The log of these records, the first of which has LSN 1.
+fn log_of(alloc: Global, written: &[Written]) -> Result<Vec<Record>, Fail> {
+    let mut log = Vec::new(alloc);
+    for written in written {
+        write(alloc, &mut log, *written)?;
+    }
+    Ok(log)
 }
 
 // Whether an id is within its limits.
@@ -148,8 +192,11 @@ fn left_of(rt: &impl Abort, alloc: Global, records: Vec<Record>) -> Result<Left,
     Ok(Left { entries, lowest })
 }
 
-// Asserts what is left: entries of the map m, each with its key, value and LSN, and the lowest.
-fn expect(rt: &impl Abort, left: &Left, want: &[(&[u8], &[u8], u64)], lowest: u64) {
+// An entry of the map m: its key, its value and its LSN.
+type Kept = (&'static [u8], &'static [u8], u64);
+
+// Asserts what is left: the entries, and the lowest.
+fn expect(rt: &impl Abort, left: &Left, want: &[Kept], lowest: u64) {
     assert_eq!(rt; left.entries.len(), want.len());
     for (entry, want) in left.entries.iter().zip(want.iter()) {
         assert_eq!(rt; entry.id.bytes(), b"m".as_slice());
@@ -160,150 +207,176 @@ fn expect(rt: &impl Abort, left: &Left, want: &[(&[u8], &[u8], u64)], lowest: u6
     assert_eq!(rt; left.lowest, lowest);
 }
 
+// Asserts what a log leaves.
+fn expect_of(
+    rt: &impl Abort,
+    alloc: Global,
+    log: Vec<Record>,
+    want: &[Kept],
+    lowest: u64,
+) -> Result<(), Fail> {
+    let left = left_of(rt, alloc, log)?;
+    expect(rt, &left, want, lowest);
+    Ok(())
+}
+
 // A put, and a transaction that puts, removes and puts the same key.
+const REMOVED_IN_A_TRANSACTION: [Written; 7] = [
+    Written::Mark,
+    Written::Put(0, 0, b"k", b"z"),
+    Written::Begin(3),
+    Written::Put(3, 2, b"k", b"a"),
+    Written::Remove(3, 4),
+    Written::Put(3, 0, b"k", b"b"),
+    Written::Commit(3),
+];
+
 #[test]
 fn removed_in_a_transaction(rt: HostRuntime) -> Result<(), Fail> {
-    let alloc = rt.alloc();
-    let mut records = Vec::new(alloc);
-    records.push(mark())?;
-    records.push(put(alloc, 0, 0, b"k", b"z")?)?;
-    records.push(record(3, 0, Action::Begin))?;
-    records.push(put(alloc, 3, 2, b"k", b"a")?)?;
-    records.push(remove(alloc, 3, 4)?)?;
-    records.push(put(alloc, 3, 0, b"k", b"b")?)?;
-    records.push(record(3, 0, Action::Commit))?;
-    let left = left_of(&rt, alloc, records)?;
-    expect(&rt, &left, &[(b"k", b"b", 6)], 6);
-    Ok(())
+    let log = log_of(rt.alloc(), &REMOVED_IN_A_TRANSACTION)?;
+    expect_of(&rt, rt.alloc(), log, &[(b"k", b"b", 6)], 6)
 }
 
 // The same without its last put: the put in the transaction is skipped, and still names the one before it.
+const REMOVED_AT_LAST: [Written; 6] = [
+    Written::Mark,
+    Written::Put(0, 0, b"k", b"z"),
+    Written::Begin(3),
+    Written::Put(3, 2, b"k", b"a"),
+    Written::Remove(3, 4),
+    Written::Commit(3),
+];
+
 #[test]
 fn removed_at_last(rt: HostRuntime) -> Result<(), Fail> {
-    let alloc = rt.alloc();
-    let mut records = Vec::new(alloc);
-    records.push(mark())?;
-    records.push(put(alloc, 0, 0, b"k", b"z")?)?;
-    records.push(record(3, 0, Action::Begin))?;
-    records.push(put(alloc, 3, 2, b"k", b"a")?)?;
-    records.push(remove(alloc, 3, 4)?)?;
-    records.push(record(3, 0, Action::Commit))?;
-    let left = left_of(&rt, alloc, records)?;
-    expect(&rt, &left, &[], 7);
-    Ok(())
+    let log = log_of(rt.alloc(), &REMOVED_AT_LAST)?;
+    expect_of(&rt, rt.alloc(), log, &[], 7)
 }
 
 // A transaction that was abandoned leaves the entry before it.
+const ABANDONED: [Written; 5] = [
+    Written::Mark,
+    Written::Put(0, 0, b"k", b"a"),
+    Written::Begin(3),
+    Written::Put(3, 2, b"k", b"b"),
+    Written::Abandon(3),
+];
+
 #[test]
 fn abandoned(rt: HostRuntime) -> Result<(), Fail> {
-    let alloc = rt.alloc();
-    let mut records = Vec::new(alloc);
-    records.push(mark())?;
-    records.push(put(alloc, 0, 0, b"k", b"a")?)?;
-    records.push(record(3, 0, Action::Begin))?;
-    records.push(put(alloc, 3, 2, b"k", b"b")?)?;
-    records.push(record(3, 0, Action::Abandon))?;
-    let left = left_of(&rt, alloc, records)?;
-    expect(&rt, &left, &[(b"k", b"a", 2)], 2);
-    Ok(())
+    let log = log_of(rt.alloc(), &ABANDONED)?;
+    expect_of(&rt, rt.alloc(), log, &[(b"k", b"a", 2)], 2)
 }
 
 // A map is deleted in a transaction, and then has one key.
+const DELETED_IN_A_TRANSACTION: [Written; 7] = [
+    Written::Mark,
+    Written::Put(0, 0, b"a", b"1"),
+    Written::Begin(3),
+    Written::Put(3, 0, b"b", b"2"),
+    Written::Delete(3),
+    Written::Put(3, 0, b"a", b"3"),
+    Written::Commit(3),
+];
+
 #[test]
 fn deleted_in_a_transaction(rt: HostRuntime) -> Result<(), Fail> {
-    let alloc = rt.alloc();
-    let mut records = Vec::new(alloc);
-    records.push(mark())?;
-    records.push(put(alloc, 0, 0, b"a", b"1")?)?;
-    records.push(record(3, 0, Action::Begin))?;
-    records.push(put(alloc, 3, 0, b"b", b"2")?)?;
-    records.push(delete(alloc, 3)?)?;
-    records.push(put(alloc, 3, 0, b"a", b"3")?)?;
-    records.push(record(3, 0, Action::Commit))?;
-    let left = left_of(&rt, alloc, records)?;
-    expect(&rt, &left, &[(b"a", b"3", 6)], 6);
-    Ok(())
+    let log = log_of(rt.alloc(), &DELETED_IN_A_TRANSACTION)?;
+    expect_of(&rt, rt.alloc(), log, &[(b"a", b"3", 6)], 6)
 }
 
-// An old put, 199 puts of another key, and the old entry again.
+// An old put and a put of another key.
+const TWO_KEYS: [Written; 3] = [
+    Written::Mark,
+    Written::Put(0, 0, b"a", b"x"),
+    Written::Put(0, 0, b"b", b"v"),
+];
+
+// They, 198 more puts of the other key, and the old entry again.
+fn with_many_puts(alloc: Global) -> Result<Vec<Record>, Fail> {
+    let mut log = log_of(alloc, &TWO_KEYS)?;
+    for named in 3..201 {
+        write(alloc, &mut log, Written::Put(0, named, b"b", b"v"))?;
+    }
+    write(alloc, &mut log, Written::Again(2))?;
+    Ok(log)
+}
+
 #[test]
 fn written_again(rt: HostRuntime) -> Result<(), Fail> {
-    let alloc = rt.alloc();
-    let mut records = Vec::new(alloc);
-    records.push(mark())?;
-    records.push(put(alloc, 0, 0, b"a", b"x")?)?;
-    records.push(put(alloc, 0, 0, b"b", b"v")?)?;
-    for named in 3..201 {
-        records.push(put(alloc, 0, named, b"b", b"v")?)?;
-    }
-    records.push(again(alloc, 2)?)?;
-    let left = left_of(&rt, alloc, records)?;
-    expect(&rt, &left, &[(b"b", b"v", 201), (b"a", b"x", 202)], 201);
+    let log = with_many_puts(rt.alloc())?;
+    let want: [Kept; 2] = [(b"b", b"v", 201), (b"a", b"x", 202)];
+    expect_of(&rt, rt.alloc(), log, &want, 201)
+}
+
+// An old put, a begin with one put, and a put of a third key.
+const BEHIND_A_BEGIN: [Written; 5] = [
+    Written::Mark,
+    Written::Put(0, 0, b"a", b"x"),
+    Written::Begin(3),
+    Written::Put(3, 0, b"b", b"y"),
+    Written::Put(0, 0, b"c", b"v1"),
+];
+
+// Adds the put of the third key with this number.
+fn write_numbered(alloc: Global, log: &mut Vec<Record>, number: u64) -> Result<(), Fail> {
+    let value = format!(in alloc; "v{number}")?;
+    let record = put(alloc, 0, number.saturating_add(3), b"c", value.as_bytes())?;
+    log.push(record)?;
     Ok(())
 }
 
-// The same behind a begin, with 70 puts of a third key; the transaction commits last or is open still.
+// They, 69 more puts of the third key, and the old entry again; the transaction is open still.
+fn with_numbered_puts(alloc: Global) -> Result<Vec<Record>, Fail> {
+    let mut log = log_of(alloc, &BEHIND_A_BEGIN)?;
+    for number in 2..71u64 {
+        write_numbered(alloc, &mut log, number)?;
+    }
+    write(alloc, &mut log, Written::Again(2))?;
+    Ok(log)
+}
+
+// The same, and the transaction commits last.
+fn with_a_commit(alloc: Global) -> Result<Vec<Record>, Fail> {
+    let mut log = with_numbered_puts(alloc)?;
+    let mut last = record(3, 0, Action::Commit);
+    last.lowest = 3;
+    log.push(last)?;
+    Ok(log)
+}
+
 #[test]
 fn written_again_behind_a_begin(rt: HostRuntime) -> Result<(), Fail> {
     let alloc = rt.alloc();
-    for commits in [true, false] {
-        let mut records = Vec::new(alloc);
-        records.push(mark())?;
-        records.push(put(alloc, 0, 0, b"a", b"x")?)?;
-        records.push(record(3, 0, Action::Begin))?;
-        records.push(put(alloc, 3, 0, b"b", b"y")?)?;
-        records.push(put(alloc, 0, 0, b"c", b"v1")?)?;
-        for i in 2..71u64 {
-            let value = format!(in alloc; "v{i}")?;
-            records.push(put(alloc, 0, i + 3, b"c", value.as_bytes())?)?;
-        }
-        records.push(again(alloc, 2)?)?;
-        if commits {
-            let mut last = record(3, 0, Action::Commit);
-            last.lowest = 3;
-            records.push(last)?;
-        }
-        let left = left_of(&rt, alloc, records)?;
-        if commits {
-            let want: [(&[u8], &[u8], u64); 3] = [
-                (b"b", b"y", 4),
-                (b"c", b"v70", 74),
-                (b"a", b"x", 75),
-            ];
-            expect(&rt, &left, &want, 4);
-        } else {
-            expect(&rt, &left, &[(b"c", b"v70", 74), (b"a", b"x", 75)], 3);
-        }
-    }
-    Ok(())
+    let log = with_a_commit(alloc)?;
+    let want: [Kept; 3] = [(b"b", b"y", 4), (b"c", b"v70", 74), (b"a", b"x", 75)];
+    expect_of(&rt, alloc, log, &want, 4)?;
+    let log = with_numbered_puts(alloc)?;
+    let want: [Kept; 2] = [(b"c", b"v70", 74), (b"a", b"x", 75)];
+    expect_of(&rt, alloc, log, &want, 3)
 }
 
 // A log that is empty, and a log of one mark.
 #[test]
 fn no_changes(rt: HostRuntime) -> Result<(), Fail> {
-    let alloc = rt.alloc();
-    let left = left_of(&rt, alloc, Vec::new(alloc))?;
-    expect(&rt, &left, &[], 1);
-    let left = left_of(&rt, alloc, vec![in alloc; mark()]?)?;
-    expect(&rt, &left, &[], 2);
-    Ok(())
+    expect_of(&rt, rt.alloc(), Vec::new(rt.alloc()), &[], 1)?;
+    let log = log_of(rt.alloc(), &[Written::Mark])?;
+    expect_of(&rt, rt.alloc(), log, &[], 2)
 }
 
 // A log with a transaction that commits and one that stays open, and a compaction behind them.
-fn with_all(alloc: Global) -> Result<Vec<Record>, Fail> {
-    let mut records = Vec::new(alloc);
-    records.push(mark())?;
-    records.push(put(alloc, 0, 0, b"k", b"z")?)?;
-    records.push(record(3, 0, Action::Begin))?;
-    records.push(put(alloc, 3, 2, b"k", b"a")?)?;
-    records.push(remove(alloc, 3, 4)?)?;
-    records.push(delete(alloc, 3)?)?;
-    records.push(record(3, 0, Action::Commit))?;
-    records.push(record(8, 0, Action::Begin))?;
-    records.push(put(alloc, 8, 0, b"k", b"b")?)?;
-    records.push(again(alloc, 2)?)?;
-    Ok(records)
-}
+const WITH_ALL: [Written; 10] = [
+    Written::Mark,
+    Written::Put(0, 0, b"k", b"z"),
+    Written::Begin(3),
+    Written::Put(3, 2, b"k", b"a"),
+    Written::Remove(3, 4),
+    Written::Delete(3),
+    Written::Commit(3),
+    Written::Begin(8),
+    Written::Put(8, 0, b"k", b"b"),
+    Written::Again(2),
+];
 
 // The LSNs of the records that a filter gives on, the newest first.
 fn given_on<F: Filter>(
@@ -322,19 +395,35 @@ fn given_on<F: Filter>(
     Ok(given)
 }
 
+// Asserts the LSNs of the records that a filter gives on of this log.
+fn expect_given<F: Filter>(
+    rt: &impl Abort,
+    alloc: Global,
+    filter: &mut F,
+    want: &[u64],
+) -> Result<(), Fail> {
+    let log = log_of(alloc, &WITH_ALL)?;
+    let given = given_on(alloc, filter, log)?;
+    assert_eq!(rt; given.as_slice(), want);
+    Ok(())
+}
+
 // Each filter by itself.
 #[test]
 fn each_by_itself(rt: HostRuntime) -> Result<(), Fail> {
     let alloc = rt.alloc();
-    let given = given_on(alloc, &mut TransactionFilter::new(alloc), with_all(alloc)?)?;
-    assert_eq!(rt; given.as_slice(), [10, 6, 5, 4, 2].as_slice());
-    let given = given_on(alloc, &mut SkipFilter::new(alloc), with_all(alloc)?)?;
-    assert_eq!(rt; given.as_slice(), [10, 9, 8, 7, 6, 3, 1].as_slice());
-    let given = given_on(alloc, &mut DeleteFilter::new(alloc), with_all(alloc)?)?;
-    assert_eq!(rt; given.as_slice(), [10, 9, 8, 7, 3, 1].as_slice());
-    let mut replay = ReplayFilter::new(alloc);
-    let given = given_on(alloc, &mut replay, with_all(alloc)?)?;
-    assert_eq!(rt; given.len(), 0);
+    let mut transactions = TransactionFilter::new(alloc);
+    expect_given(&rt, alloc, &mut transactions, &[10, 6, 5, 4, 2])?;
+    let mut skips = SkipFilter::new(alloc);
+    expect_given(&rt, alloc, &mut skips, &[10, 9, 8, 7, 6, 3, 1])?;
+    let mut deletes = DeleteFilter::new(alloc);
+    expect_given(&rt, alloc, &mut deletes, &[10, 9, 8, 7, 3, 1])
+}
+
+#[test]
+fn the_replay_by_itself(rt: HostRuntime) -> Result<(), Fail> {
+    let mut replay = ReplayFilter::new(rt.alloc());
+    expect_given(&rt, rt.alloc(), &mut replay, &[])?;
     let left = Left {
         entries: replay.entries(),
         lowest: 9,
