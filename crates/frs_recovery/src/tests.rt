@@ -65,82 +65,59 @@ const NOTHING: Want = Want {
     lowest: 1,
 };
 
-// One byte of the whole segment that is changed there.
-#[derive(Clone, Copy)]
-struct Change {
-    at: usize,
-    byte: u8,
-    want: Result<Want, RecoverFault>,
-}
-
-fn refused(at: usize, byte: u8, fault: RecoverFault) -> Change {
-    Change {
-        at,
-        byte,
-        want: Err(fault),
-    }
-}
-
-fn header(offset: u64) -> RecoverFault {
-    RecoverFault::BadHeader { segment: 1, offset }
-}
-
 fn chunk(offset: u64) -> RecoverFault {
     RecoverFault::BadChunk { segment: 1, offset }
 }
 
-fn left(
-    at: usize,
-    byte: u8,
-    entries: &'static [Kept],
-    next: u64,
-    named: u64,
-    lowest: u64,
-) -> Change {
-    Change {
-        at,
-        byte,
-        want: Ok(Want {
-            entries,
-            next,
-            named,
-            lowest,
-        }),
-    }
-}
+// A place in the whole segment, and the byte that is put there.
+type Change = (usize, u8);
+
+// Faults of headers and of chunks of the segment: the change, and the offset that is told.
+const WRONG_HEADERS: [(Change, u64); 4] = [
+    ((1, 0x47), 1),
+    ((5, 9), 5),
+    ((13, 2), 6),
+    ((21, 0), 14),
+];
+
+const WRONG_CHUNKS: [(Change, u64); 7] = [
+    ((21, 2), 22),
+    ((72, 2), 64),
+    ((81, 9), 64),
+    ((97, 3), 64),
+    ((105, 2), 64),
+    ((146, 0), 113),
+    ((155, 1), 155),
+];
 
 const PUT: &[Kept] = &[(b'k', b'v', 2)];
 
-// What the changes of one byte lead to; the first one changes nothing.
-fn changes() -> [Change; 19] {
-    [
-        left(0, 1, PUT, 4, 2, 2),
-        refused(1, 0x47, header(1)),
-        refused(5, 9, header(5)),
-        refused(13, 2, header(6)),
-        refused(21, 0, header(14)),
-        refused(21, 2, chunk(22)),
-        refused(
-            14,
-            0x40,
-            RecoverFault::NumberLimit {
-                lsn: 0x4000_0000_0000_0001,
-            },
-        ),
-        left(22, 0, &[], 1, 1, 1),
-        left(64, 0, &[], 2, 1, 2),
-        left(64, 7, &[], 2, 1, 2),
-        refused(72, 2, chunk(64)),
-        refused(81, 9, chunk(64)),
-        refused(97, 3, chunk(64)),
-        refused(105, 2, chunk(64)),
-        left(105, 1, PUT, 4, 2, 2),
-        left(113, 5, PUT, 3, 2, 2),
-        refused(146, 0, chunk(113)),
-        left(146, 3, &[], 4, 3, 4),
-        refused(155, 1, chunk(155)),
-    ]
-}
+// The whole segment as it is.
+const PUT_AND_MARKS: Want = Want {
+    entries: PUT,
+    next: 4,
+    named: 2,
+    lowest: 2,
+};
+
+// Changes that leave a store, and what is read back of it; the first one changes nothing.
+const LEFT: [(Change, Want); 7] = [
+    ((0, 1), PUT_AND_MARKS),
+    ((22, 0), NOTHING),
+    ((64, 0), BEFORE_THE_PUT),
+    ((64, 7), BEFORE_THE_PUT),
+    ((105, 1), PUT_AND_MARKS),
+    ((113, 5), AFTER_THE_PUT),
+    (
+        (146, 3),
+        Want {
+            entries: &[],
+            next: 4,
+            named: 3,
+            lowest: 4,
+        },
+    ),
+];
 
 // The whole segment with one byte changed.
 fn changed(alloc: Global, at: usize, byte: u8) -> Result<Vec<u8>, NoMemory> {
@@ -293,21 +270,46 @@ fn whole(rt: &impl Abort, alloc: Global, disk: MemDisk) -> Result<Recovered, NoM
     }
 }
 
-// One segment with each of its bytes in a table changed.
+// A disk with the whole segment, one byte of which is changed.
+fn changed_disk(alloc: Global, change: Change) -> Result<MemDisk, NoMemory> {
+    let bytes = changed(alloc, change.0, change.1)?;
+    one(alloc, 1, bytes)
+}
+
+// Asserts why the segment with this change isn't read back.
+fn expect_changed(
+    rt: &impl Abort,
+    alloc: Global,
+    change: Change,
+    fault: RecoverFault,
+) -> Result<(), NoMemory> {
+    let disk = changed_disk(alloc, change)?;
+    expect_refusal(rt, alloc, disk, fault)
+}
+
+// One segment with each of its bytes in the tables changed.
 #[test]
 fn changed_bytes(rt: HostRuntime) -> Result<(), Fail> {
     let alloc = rt.alloc();
-    for change in &changes() {
-        let bytes = changed(alloc, change.at, change.byte)?;
-        let answer = read_back(alloc, one(alloc, 1, bytes)?)?;
-        match (&answer, &change.want) {
-            (Ok(answer), Ok(want)) => {
-                expect(&rt, answer, want);
-                expect_files(&rt, answer, &[1], &[], &[], 1);
-            }
-            (Err(fault), Err(want)) => assert_eq!(rt; fault, want),
-            _ => panic!(rt; "{} at {}", change.byte, change.at),
-        }
+    for &(change, offset) in &WRONG_HEADERS {
+        let fault = RecoverFault::BadHeader { segment: 1, offset };
+        expect_changed(&rt, alloc, change, fault)?;
+    }
+    for &(change, offset) in &WRONG_CHUNKS {
+        expect_changed(&rt, alloc, change, chunk(offset))?;
+    }
+    let limit = RecoverFault::NumberLimit {
+        lsn: 0x4000_0000_0000_0001,
+    };
+    expect_changed(&rt, alloc, (14, 0x40), limit)?;
+    Ok(())
+}
+
+#[test]
+fn changed_bytes_of_a_store(rt: HostRuntime) -> Result<(), Fail> {
+    for (change, want) in &LEFT {
+        let disk = changed_disk(rt.alloc(), *change)?;
+        expect_store(&rt, rt.alloc(), disk, want, &FIRST_ALONE)?;
     }
     Ok(())
 }
@@ -342,10 +344,18 @@ struct Numbered {
     greatest: u64,
 }
 
-// Why a store isn't read back, if it isn't.
-fn refusal(alloc: Global, disk: MemDisk) -> Result<Option<RecoverFault>, NoMemory> {
-    let answer = read_back(alloc, disk)?;
-    Ok(answer.err())
+// Asserts why a store isn't read back.
+fn expect_refusal(
+    rt: &impl Abort,
+    alloc: Global,
+    disk: MemDisk,
+    want: RecoverFault,
+) -> Result<(), NoMemory> {
+    match read_back(alloc, disk)? {
+        Ok(_) => panic!(rt; "read back, and not: {want}"),
+        Err(fault) => assert_eq!(rt; fault, want),
+    }
+    Ok(())
 }
 
 // The whole segment up to a length.
@@ -362,14 +372,20 @@ fn empty(alloc: Global, number: u8, first: u8) -> Result<Vec<u8>, NoMemory> {
     Ok(bytes)
 }
 
+// A disk with the whole segment up to a length.
+fn cut_disk(alloc: Global, len: usize) -> Result<MemDisk, NoMemory> {
+    let bytes = cut(alloc, len)?;
+    one(alloc, 1, bytes)
+}
+
 // One segment that was cut.
 #[test]
 fn cut_files(rt: HostRuntime) -> Result<(), Fail> {
     let alloc = rt.alloc();
-    let fault = refusal(alloc, one(alloc, 1, cut(alloc, 100)?)?)?;
-    assert_eq!(rt; fault, Some(chunk(64)));
-    let files = one(alloc, 1, cut(alloc, 22)?)?;
-    expect_store(&rt, alloc, files, &NOTHING, &FIRST_HALF_MADE)?;
+    let disk = cut_disk(alloc, 100)?;
+    expect_refusal(&rt, alloc, disk, chunk(64))?;
+    let disk = cut_disk(alloc, 22)?;
+    expect_store(&rt, alloc, disk, &NOTHING, &FIRST_HALF_MADE)?;
     Ok(())
 }
 
@@ -443,16 +459,22 @@ fn expect_chunks(rt: &impl Abort, answer: &Recovered, chunks: usize) {
     }
 }
 
+// Asserts what is read back after such a crash.
+fn expect_crash(rt: &impl Abort, alloc: Global, crash: &Crash) -> Result<(), NoMemory> {
+    let bytes = up_to_the_put(alloc, crash.gate)?;
+    let disk = one(alloc, 1, bytes)?;
+    let answer = whole(rt, alloc, disk)?;
+    expect(rt, &answer, &crash.want);
+    expect_files(rt, &answer, &[1], &[], &[], 1);
+    expect_chunks(rt, &answer, crash.chunks);
+    Ok(())
+}
+
 // A run with one put crashed once the put's body was synced, before its gate was.
 #[test]
 fn crashes_at_the_gate_of_a_put(rt: HostRuntime) -> Result<(), Fail> {
-    let alloc = rt.alloc();
     for crash in &CRASHES {
-        let files = one(alloc, 1, up_to_the_put(alloc, crash.gate)?)?;
-        let answer = whole(&rt, alloc, files)?;
-        expect(&rt, &answer, &crash.want);
-        expect_files(&rt, &answer, &[1], &[], &[], 1);
-        expect_chunks(&rt, &answer, crash.chunks);
+        expect_crash(&rt, rt.alloc(), crash)?;
     }
     Ok(())
 }
@@ -461,7 +483,8 @@ fn crashes_at_the_gate_of_a_put(rt: HostRuntime) -> Result<(), Fail> {
 #[test]
 fn a_crash_at_the_gate_of_the_file(rt: HostRuntime) -> Result<(), Fail> {
     let alloc = rt.alloc();
-    let files = one(alloc, 1, Vec::from_slice(alloc, &GATE_CLOSED)?)?;
+    let bytes = Vec::from_slice(alloc, &GATE_CLOSED)?;
+    let files = one(alloc, 1, bytes)?;
     expect_store(&rt, alloc, files, &NOTHING, &FIRST_HALF_MADE)?;
     Ok(())
 }
@@ -495,7 +518,8 @@ fn a_store_of_two_marks(rt: HostRuntime) -> Result<(), Fail> {
         named: 2,
         lowest: 3,
     };
-    let files = one(alloc, 1, two_marks(alloc)?)?;
+    let bytes = two_marks(alloc)?;
+    let files = one(alloc, 1, bytes)?;
     expect_store(&rt, alloc, files, &want, &FIRST_ALONE)?;
     Ok(())
 }
@@ -520,7 +544,8 @@ fn a_store_of_two_puts(rt: HostRuntime) -> Result<(), Fail> {
         named: 3,
         lowest: 3,
     };
-    let files = one(alloc, 1, two_puts(alloc)?)?;
+    let bytes = two_puts(alloc)?;
+    let files = one(alloc, 1, bytes)?;
     expect_store(&rt, alloc, files, &want, &FIRST_ALONE)?;
     Ok(())
 }
@@ -535,33 +560,39 @@ fn the_last_lsn(rt: HostRuntime) -> Result<(), Fail> {
         named: end - 1,
         lowest: end,
     };
-    let files = one(alloc, 1, Vec::from_slice(alloc, &LAST_LSN)?)?;
+    let bytes = Vec::from_slice(alloc, &LAST_LSN)?;
+    let files = one(alloc, 1, bytes)?;
     expect_store(&rt, alloc, files, &want, &FIRST_ALONE)?;
     Ok(())
 }
 
-// A half-made file alone, and one above a segment.
 #[test]
-fn half_made_files(rt: HostRuntime) -> Result<(), Fail> {
+fn a_half_made_file(rt: HostRuntime) -> Result<(), Fail> {
     let alloc = rt.alloc();
-    let files = one(alloc, 1, Vec::from_slice(alloc, &[1])?)?;
-    expect_store(&rt, alloc, files, &NOTHING, &FIRST_HALF_MADE)?;
-    let want = Want {
-        entries: PUT,
-        next: 4,
-        named: 2,
-        lowest: 2,
-    };
+    let bytes = Vec::from_slice(alloc, &[1])?;
+    let disk = one(alloc, 1, bytes)?;
+    expect_store(&rt, alloc, disk, &NOTHING, &FIRST_HALF_MADE)?;
+    Ok(())
+}
+
+// A half-made file above a segment.
+fn half_made_above(alloc: Global) -> Result<MemDisk, NoMemory> {
+    let first = changed(alloc, 0, 1)?;
+    let second = Vec::from_slice(alloc, &HALF_MADE)?;
+    two(alloc, 1, first, 2, second)
+}
+
+#[test]
+fn a_half_made_file_above_a_segment(rt: HostRuntime) -> Result<(), Fail> {
+    let alloc = rt.alloc();
     let found = Numbered {
         segments: &[1],
         half: &[2],
         older: &[],
         greatest: 2,
     };
-    let first = changed(alloc, 0, 1)?;
-    let second = Vec::from_slice(alloc, &HALF_MADE)?;
-    let files = two(alloc, 1, first, 2, second)?;
-    expect_store(&rt, alloc, files, &want, &found)?;
+    let disk = half_made_above(alloc)?;
+    expect_store(&rt, alloc, disk, &PUT_AND_MARKS, &found)?;
     Ok(())
 }
 
@@ -575,7 +606,8 @@ fn half_made_files_around_a_segment(rt: HostRuntime) -> Result<(), Fail> {
         older: &[1],
         greatest: 3,
     };
-    let disk = three(alloc, Vec::new(alloc), empty(alloc, 2, 1)?, Vec::new(alloc))?;
+    let middle = empty(alloc, 2, 1)?;
+    let disk = three(alloc, Vec::new(alloc), middle, Vec::new(alloc))?;
     expect_store(&rt, alloc, disk, &NOTHING, &found)?;
     Ok(())
 }
@@ -603,7 +635,8 @@ fn sessions(alloc: Global) -> Result<MemDisk, NoMemory> {
 #[test]
 fn many_segments(rt: HostRuntime) -> Result<(), Fail> {
     let alloc = rt.alloc();
-    let answer = whole(&rt, alloc, sessions(alloc)?)?;
+    let disk = sessions(alloc)?;
+    let answer = whole(&rt, alloc, disk)?;
     let want = Want {
         entries: &[(b'a', b'1', 2), (b'b', b'2', 5), (b'c', b'3', 8)],
         next: 10,
@@ -623,6 +656,17 @@ fn without_the_second(alloc: Global) -> Result<MemDisk, NoMemory> {
     two(alloc, 1, oldest, 3, newest)
 }
 
+// The third of three sessions alone, and a segment without a record alone.
+fn third_alone(alloc: Global) -> Result<MemDisk, NoMemory> {
+    let bytes = third(alloc)?;
+    one(alloc, 3, bytes)
+}
+
+fn empty_alone(alloc: Global) -> Result<MemDisk, NoMemory> {
+    let bytes = empty(alloc, 4, 7)?;
+    one(alloc, 4, bytes)
+}
+
 #[test]
 fn a_segment_is_missing(rt: HostRuntime) -> Result<(), Fail> {
     let alloc = rt.alloc();
@@ -634,12 +678,12 @@ fn a_segment_is_missing(rt: HostRuntime) -> Result<(), Fail> {
         expected: 6,
         found: 0,
     };
-    assert_eq!(rt; refusal(alloc, without_the_second(alloc)?)?, Some(between));
-    assert_eq!(rt; refusal(alloc, one(alloc, 3, third(alloc)?)?)?, Some(below));
-    assert_eq!(rt;
-        refusal(alloc, one(alloc, 4, empty(alloc, 4, 7)?)?)?,
-        Some(below)
-    );
+    let disk = without_the_second(alloc)?;
+    expect_refusal(&rt, alloc, disk, between)?;
+    let disk = third_alone(alloc)?;
+    expect_refusal(&rt, alloc, disk, below)?;
+    let disk = empty_alone(alloc)?;
+    expect_refusal(&rt, alloc, disk, below)?;
     Ok(())
 }
 
@@ -684,9 +728,12 @@ fn what_is_wrong_first(rt: HostRuntime) -> Result<(), Fail> {
     let limit = RecoverFault::NumberLimit {
         lsn: 0x4000_0000_0000_0001,
     };
-    assert_eq!(rt; refusal(alloc, middle_cut(alloc)?)?, Some(cut));
-    assert_eq!(rt; refusal(alloc, middle_short(alloc)?)?, Some(gap));
-    assert_eq!(rt; refusal(alloc, middle_half_made(alloc)?)?, Some(limit));
+    let disk = middle_cut(alloc)?;
+    expect_refusal(&rt, alloc, disk, cut)?;
+    let disk = middle_short(alloc)?;
+    expect_refusal(&rt, alloc, disk, gap)?;
+    let disk = middle_half_made(alloc)?;
+    expect_refusal(&rt, alloc, disk, limit)?;
     Ok(())
 }
 
@@ -702,9 +749,13 @@ const SECOND: Want = Want {
     lowest: 5,
 };
 
-// A file below the segments that are needed isn't looked at.
+fn renewed_alone(alloc: Global) -> Result<MemDisk, NoMemory> {
+    let bytes = renewed(alloc)?;
+    one(alloc, 2, bytes)
+}
+
 #[test]
-fn older_files(rt: HostRuntime) -> Result<(), Fail> {
+fn a_segment_that_needs_no_older_one(rt: HostRuntime) -> Result<(), Fail> {
     let alloc = rt.alloc();
     let alone = Numbered {
         segments: &[2],
@@ -712,10 +763,25 @@ fn older_files(rt: HostRuntime) -> Result<(), Fail> {
         older: &[],
         greatest: 2,
     };
-    expect_store(&rt, alloc, one(alloc, 2, renewed(alloc)?)?, &SECOND, &alone)?;
+    let disk = renewed_alone(alloc)?;
+    expect_store(&rt, alloc, disk, &SECOND, &alone)?;
     Ok(())
 }
 
+// The segment above file 1, which isn't needed: bytes of no segment, or a segment of another version.
+fn above_no_segment(alloc: Global) -> Result<MemDisk, NoMemory> {
+    let older = Vec::from_slice(alloc, b"**********")?;
+    let newer = renewed(alloc)?;
+    two(alloc, 1, older, 2, newer)
+}
+
+fn above_another_version(alloc: Global) -> Result<MemDisk, NoMemory> {
+    let older = changed(alloc, 5, 9)?;
+    let newer = renewed(alloc)?;
+    two(alloc, 1, older, 2, newer)
+}
+
+// A file below the segments that are needed isn't looked at.
 #[test]
 fn older_files_are_not_looked_at(rt: HostRuntime) -> Result<(), Fail> {
     let alloc = rt.alloc();
@@ -725,26 +791,31 @@ fn older_files_are_not_looked_at(rt: HostRuntime) -> Result<(), Fail> {
         older: &[1],
         greatest: 2,
     };
-    let older = Vec::from_slice(alloc, b"**********")?;
-    let files = two(alloc, 1, older, 2, renewed(alloc)?)?;
-    expect_store(&rt, alloc, files, &SECOND, &beside)?;
-    let older = changed(alloc, 5, 9)?;
-    let files = two(alloc, 1, older, 2, renewed(alloc)?)?;
-    expect_store(&rt, alloc, files, &SECOND, &beside)?;
+    let disk = above_no_segment(alloc)?;
+    expect_store(&rt, alloc, disk, &SECOND, &beside)?;
+    let disk = above_another_version(alloc)?;
+    expect_store(&rt, alloc, disk, &SECOND, &beside)?;
     Ok(())
 }
 
-// A disk whose second call fails.
+// A disk with the whole segment, whose second call fails.
+fn failing_disk(alloc: Global) -> Result<MemDisk, NoMemory> {
+    let mut failing = Vec::new(alloc);
+    failing.push(2)?;
+    let bytes = changed(alloc, 0, 1)?;
+    let mut files = Vec::new(alloc);
+    files.push((1, bytes))?;
+    let plan = FaultPlan {
+        failing,
+        stop_after: None,
+    };
+    MemDisk::of(alloc, files, plan)
+}
+
 #[test]
 fn a_failing_disk(rt: HostRuntime) -> Result<(), Fail> {
     let alloc = rt.alloc();
-    let plan = FaultPlan {
-        failing: vec![in alloc; 2]?,
-        stop_after: None,
-    };
-    let mut files = Vec::new(alloc);
-    files.push((1, changed(alloc, 0, 1)?))?;
-    let mut disk = MemDisk::of(alloc, files, plan)?;
+    let mut disk = failing_disk(alloc)?;
     let fault = recover(alloc, &mut disk).err();
     assert_eq!(rt; fault, Some(RecoverFault::Disk));
     assert_eq!(rt; disk.count(), 1);

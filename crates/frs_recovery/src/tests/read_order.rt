@@ -1,6 +1,7 @@
 //! In which order a recovery reads a segment, and how wide.
 use super::{WHOLE, begun, changed, chunk, cut, one};
 use crate::recover;
+use frs_disk::MemDisk;
 use frs_segment::WIDEST;
 use frs_types::NoMemory;
 use std::alloc::Global;
@@ -38,7 +39,8 @@ fn expect_narrow(rt: &impl Abort, reads: &[(u64, u64, u64)]) {
 #[test]
 fn reads_of_a_segment(rt: HostRuntime) -> Result<(), Fail> {
     let alloc = rt.alloc();
-    let mut disk = one(alloc, 1, changed(alloc, 0, 1)?)?;
+    let bytes = changed(alloc, 0, 1)?;
+    let mut disk = one(alloc, 1, bytes)?;
     assert!(rt; recover(alloc, &mut disk).is_ok());
     assert!(rt; disk.reads() == READS.as_slice());
     expect_narrow(&rt, disk.reads());
@@ -56,7 +58,8 @@ fn body_past_the_end(alloc: Global) -> Result<Vec<u8>, NoMemory> {
 #[test]
 fn a_body_past_the_end(rt: HostRuntime) -> Result<(), Fail> {
     let alloc = rt.alloc();
-    let mut disk = one(alloc, 1, body_past_the_end(alloc)?)?;
+    let bytes = body_past_the_end(alloc)?;
+    let mut disk = one(alloc, 1, bytes)?;
     let fault = recover(alloc, &mut disk).err();
     assert_eq!(rt; fault, Some(chunk(64)));
     expect_narrow(&rt, disk.reads());
@@ -107,12 +110,27 @@ fn long_read(number: u64) -> (u64, u64, u64) {
     (1, gate(nth), end.saturating_sub(gate(nth)))
 }
 
+// Asserts that these are the reads of the long segment.
+fn expect_long_reads(rt: &impl Abort, reads: &[(u64, u64, u64)]) {
+    assert_eq!(rt; reads.len(), 402);
+    let mut number = 0u64;
+    for read in reads {
+        assert!(rt; *read == long_read(number), "read {number}");
+        number = number.saturating_add(1);
+    }
+}
+
+// A disk with the long segment.
+fn long_disk(rt: &impl Abort, alloc: Global) -> Result<MemDisk, NoMemory> {
+    let bytes = long_segment(alloc)?;
+    assert_eq!(rt; bytes.len(), 1_000_000);
+    one(alloc, 1, bytes)
+}
+
 #[test]
 fn a_segment_of_many_chunks(rt: HostRuntime) -> Result<(), Fail> {
     let alloc = rt.alloc();
-    let bytes = long_segment(alloc)?;
-    assert_eq!(rt; bytes.len(), 1_000_000);
-    let mut disk = one(alloc, 1, bytes)?;
+    let mut disk = long_disk(&rt, alloc)?;
     match recover(alloc, &mut disk) {
         Ok(answer) => {
             assert_eq!(rt; answer.entries.items().len(), 200);
@@ -121,11 +139,6 @@ fn a_segment_of_many_chunks(rt: HostRuntime) -> Result<(), Fail> {
         Err(fault) => panic!(rt; "{fault}"),
     }
     expect_narrow(&rt, disk.reads());
-    assert_eq!(rt; disk.reads().len(), 402);
-    let mut number = 0u64;
-    for read in disk.reads() {
-        assert!(rt; *read == long_read(number), "read {number}");
-        number = number.saturating_add(1);
-    }
+    expect_long_reads(&rt, disk.reads());
     Ok(())
 }
