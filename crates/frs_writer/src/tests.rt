@@ -1,5 +1,5 @@
 //! Groups that are written to a disk in memory: its calls, the chunks that they make, and what a fault leaves.
-ghost use Rattle.std.specs.Prelude.{◌≡◌, ℕ, [], ◌∷◌, IfOk, IsSome};
+ghost use Rattle.std.specs.Prelude.{◌≡◌, ◌≤◌, ℕ, [], ◌∷◌, IfOk, IsSome};
 ghost use Rattle.std.specs.FinMap.{entries, get};
 ghost use Rattle.frs_disk.specs.Disk.{IsNumber};
 ghost use Rattle.frs_disk.specs.Plans.{removed_on, files_of};
@@ -8,10 +8,11 @@ ghost use Rattle.frs_segment.specs.Stores.{IsFound};
 use super::*;
 use frs_disk::{Call, Disk, FaultPlan, Made, MemDisk};
 use frs_frame::{Framed, encode_payload};
-use frs_segment::{ChunkPlace, Found, ScanFault, read_chunk, scan};
+use frs_segment::{ChunkPlace, Found, ScanFault, Segment, read_chunk, scan};
 use frs_slots::{Drawer, Taker, ring};
 use frs_types::{Action, Key, MapId, NoMemory, Sequence, Value, WordFault};
 use std::alloc::Global;
+use std::process::Abort;
 use std::sync::{Mutex, Wait};
 use std::test::Fail;
 use std::thread;
@@ -94,6 +95,20 @@ fn draw(drawer: &mut Drawer, framed: Framed) -> bool {
     }
 }
 
+// Draws and fills so many marks. There has to be room.
+fn draw_marks(
+    rt: &impl Abort,
+    alloc: Global,
+    drawer: &mut Drawer,
+    count: u32,
+) -> Result<(), NoMemory> {
+    for _ in 0..count {
+        let framed = mark(alloc)?;
+        assert!(rt; draw(drawer, framed));
+    }
+    Ok(())
+}
+
 fn empty_disk(alloc: Global, failing: Vec<u64>) -> Result<MemDisk, NoMemory>
     ensures { IfOk result (λ disk. (entries (files_of disk) ≡ [])
         × ((n : ℕ) → removed_on disk n → ⊥)) }
@@ -132,6 +147,14 @@ fn opened(alloc: Global, failing: Vec<u64>, taker: Taker) -> Result<Writer<MemDi
     }
 }
 
+// Writes the next group of at most so many records.
+fn write(alloc: Global, writer: &mut Writer<MemDisk>, limit: u32) -> Result<u32, WriteFault>
+    requires { (1 ≤ limit) × (limit ≤ 256) }
+    ensures { writer.new.noted ≡ writer.old.noted }
+{
+    writer.write_group(alloc, limit)
+}
+
 // The LSN 2 is durable and can be noted, and 3 isn't.
 fn is_durable_up_to_two(writer: &mut Writer<MemDisk>) -> bool
     requires { writer.old.noted ≡ 0 ∷ [] }
@@ -162,11 +185,10 @@ fn has_two_marks(writer: &Writer<MemDisk>) -> bool {
 fn two_records_are_one_chunk(rt: HostRuntime) -> Result<(), Fail> {
     let alloc = rt.alloc();
     let (mut drawer, taker) = ring(alloc, 8, 1)?;
-    assert!(rt; draw(&mut drawer, mark(alloc)?));
-    assert!(rt; draw(&mut drawer, mark(alloc)?));
+    draw_marks(&rt, alloc, &mut drawer, 2)?;
     let mut writer = opened(alloc, Vec::new(alloc), taker)?;
-    assert_eq!(rt; writer.write_group(alloc, 256)?, 2);
-    assert_eq!(rt; writer.write_group(alloc, 256)?, 0);
+    assert_eq!(rt; write(alloc, &mut writer, 256)?, 2);
+    assert_eq!(rt; write(alloc, &mut writer, 256)?, 0);
     assert_eq!(rt; writer.synced(), 2);
     assert!(rt; is_durable_up_to_two(&mut writer));
     assert!(rt; has_two_marks(&writer));
@@ -175,50 +197,53 @@ fn two_records_are_one_chunk(rt: HostRuntime) -> Result<(), Fail> {
     Ok(())
 }
 
+// The writing that has ended by a fault.
+const BROKEN: WriteFault = WriteFault::Broken {
+    count_at_opening: 0,
+    count_now: 1,
+};
+
 #[test]
 fn a_fault_ends_the_writing(rt: HostRuntime) -> Result<(), Fail> {
     let alloc = rt.alloc();
     let (mut drawer, taker) = ring(alloc, 8, 1)?;
-    assert!(rt; draw(&mut drawer, mark(alloc)?));
+    draw_marks(&rt, alloc, &mut drawer, 1)?;
     // Call 9 is the sync of the chunk's bytes, before its gate is written.
     let mut failing = Vec::new(alloc);
     failing.push(9)?;
     let mut writer = opened(alloc, failing, taker)?;
-    assert_eq!(rt; writer.write_group(alloc, 256), Err(WriteFault::Disk));
-    let broken = WriteFault::Broken {
-        count_at_opening: 0,
-        count_now: 1,
-    };
-    assert_eq!(rt; writer.write_group(alloc, 256), Err(broken));
+    assert_eq!(rt; write(alloc, &mut writer, 256), Err(WriteFault::Disk));
+    assert_eq!(rt; write(alloc, &mut writer, 256), Err(BROKEN));
     assert_eq!(rt; writer.synced(), 0);
     assert_eq!(rt; writer.into_disk().record().len(), 9);
     Ok(())
 }
 
-// A put with a value of 65,535 bytes. Its record has 65,566.
-fn large_put(alloc: Global) -> Result<Framed, WordFault> {
+// A put of a value of 65,535 bytes. Its record has 65,566.
+fn large_put(alloc: Global) -> Result<Action, WordFault> {
     let mut bytes = Vec::new(alloc);
     bytes.resize(65535, 7u8)?;
-    let put = Action::Put {
-        id: MapId::new(alloc, b"m")?,
-        key: Key::new(alloc, b"k")?,
-        value: Value::new(alloc, bytes.as_slice())?,
-    };
-    let Ok(mut framed) = encode_payload(alloc, &put) else {
-        return Err(WordFault::Memory);
-    };
+    let id = MapId::new(alloc, b"m")?;
+    let key = Key::new(alloc, b"k")?;
+    let value = Value::new(alloc, bytes.as_slice())?;
+    Ok(Action::Put { id, key, value })
+}
+
+// Its record, which names 1 as the lowest LSN that is needed.
+fn large_record(alloc: Global) -> Result<Framed, Fail> {
+    let put = large_put(alloc)?;
+    let mut framed = encode_payload(alloc, &put)?;
     framed.patch(0, 1, 0);
     Ok(framed)
 }
 
-// Draws and fills so many large puts.
-fn draw_puts(alloc: Global, drawer: &mut Drawer, count: u32) -> Result<bool, WordFault> {
+// Draws and fills so many large puts. There has to be room.
+fn draw_puts(rt: &impl Abort, alloc: Global, drawer: &mut Drawer, count: u32) -> Result<(), Fail> {
     for _ in 0..count {
-        if !draw(drawer, large_put(alloc)?) {
-            return Ok(false);
-        }
+        let framed = large_record(alloc)?;
+        assert!(rt; draw(drawer, framed));
     }
-    Ok(true)
+    Ok(())
 }
 
 // A disk with this one file.
@@ -245,8 +270,36 @@ fn count_at(
 ) -> Result<usize, ScanFault>
     requires { IsNumber number }
 {
-    let mut disk = disk_with(alloc, number, bytes.to_vec(alloc)?)?;
-    Ok(read_chunk(alloc, &mut disk, number, place)?.len())
+    let bytes = bytes.to_vec(alloc)?;
+    let mut disk = disk_with(alloc, number, bytes)?;
+    let records = read_chunk(alloc, &mut disk, number, place)?;
+    Ok(records.len())
+}
+
+// How many records are read at each of the places.
+fn counts_at(
+    alloc: Global,
+    number: u64,
+    bytes: &[u8],
+    places: &[ChunkPlace],
+) -> Result<Vec<usize>, ScanFault>
+    requires { IsNumber number }
+{
+    let mut counts = Vec::new(alloc);
+    for place in places {
+        let count = count_at(alloc, number, bytes, place)?;
+        counts.push(count)?;
+    }
+    Ok(counts)
+}
+
+// The file of these bytes, read as a segment.
+fn scanned(alloc: Global, number: u64, bytes: &[u8]) -> Result<Segment, ScanFault>
+    requires { IsNumber number }
+{
+    let bytes = bytes.to_vec(alloc)?;
+    let mut disk = disk_with(alloc, number, bytes)?;
+    scan(alloc, &mut disk, number)
 }
 
 // A file of these bytes is read as a segment with this first LSN, this LSN after the last, this length, and chunks of
@@ -260,25 +313,44 @@ fn is_read_as(
 ) -> Result<bool, ScanFault>
     requires { IsNumber number }
 {
-    let mut disk = disk_with(alloc, number, bytes.to_vec(alloc)?)?;
-    let segment = scan(alloc, &mut disk, number)?;
-    let mut found = Vec::new(alloc);
-    for place in segment.chunks.items() {
-        found.push(count_at(alloc, number, bytes, place)?)?;
-    }
+    let segment = scanned(alloc, number, bytes)?;
+    let found = counts_at(alloc, number, bytes, segment.chunks.items())?;
     Ok((segment.first, segment.end, segment.length) == numbers && found.as_slice() == counts)
 }
 
 // How many records each of six groups has, of which the fourth has the limit 2.
 fn six_groups(alloc: Global, writer: &mut Writer<MemDisk>) -> Result<[u32; 6], WriteFault> {
-    Ok([
-        writer.write_group(alloc, 256)?,
-        writer.write_group(alloc, 256)?,
-        writer.write_group(alloc, 256)?,
-        writer.write_group(alloc, 2)?,
-        writer.write_group(alloc, 256)?,
-        writer.write_group(alloc, 256)?,
-    ])
+    let first = write(alloc, writer, 256)?;
+    let second = write(alloc, writer, 256)?;
+    let third = write(alloc, writer, 256)?;
+    let fourth = write(alloc, writer, 2)?;
+    let fifth = write(alloc, writer, 256)?;
+    let sixth = write(alloc, writer, 256)?;
+    Ok([first, second, third, fourth, fifth, sixth])
+}
+
+// A file's number, and its bytes: the first LSN of the segment, the one after its last, its length, and how many
+// records each chunk has.
+type Rolled = (u64, (u64, u64, u64), &'static [usize]);
+
+const FIRST: Rolled = (1, (1, 31, 1967037), &[15, 15]);
+
+const SECOND: Rolled = (2, (31, 48, 1114679), &[15, 2]);
+
+const THIRD: Rolled = (3, (48, 49, 65606), &[1]);
+
+// Asserts that a file of a disk is read as that segment.
+fn expect_rolled(
+    rt: &impl Abort,
+    alloc: Global,
+    file: &(u64, Vec<u8>),
+    want: Rolled,
+) -> Result<(), Fail>
+    requires { IsNumber want.0 }
+{
+    assert_eq!(rt; file.0, want.0);
+    assert!(rt; is_read_as(alloc, want.0, &file.1, want.1, want.2)?);
+    Ok(())
 }
 
 // A chunk has room for 15 large puts, and the 16th waits. A segment is left after two such chunks, or after one and two
@@ -287,7 +359,7 @@ fn six_groups(alloc: Global, writer: &mut Writer<MemDisk>) -> Result<[u32; 6], W
 fn a_log_rolls_over_three_segments(rt: HostRuntime) -> Result<(), Fail> {
     let alloc = rt.alloc();
     let (mut drawer, taker) = ring(alloc, 64, 1)?;
-    assert!(rt; draw_puts(alloc, &mut drawer, 48)?);
+    draw_puts(&rt, alloc, &mut drawer, 48)?;
     let mut writer = opened(alloc, Vec::new(alloc), taker)?;
     assert_eq!(rt; six_groups(alloc, &mut writer)?, [15, 15, 15, 2, 1, 0]);
     assert_eq!(rt; writer.synced(), 48);
@@ -295,11 +367,9 @@ fn a_log_rolls_over_three_segments(rt: HostRuntime) -> Result<(), Fail> {
     let [one, two, three] = disk.files() else {
         panic!(rt; "there are three segments")
     };
-    assert_eq!(rt; (one.0, two.0, three.0), (1, 2, 3));
-    assert!(rt; is_read_as(alloc, 1, &one.1, (1, 31, 1967037), &[15, 15])?);
-    assert!(rt; is_read_as(alloc, 2, &two.1, (31, 48, 1114679), &[15, 2])?);
-    assert!(rt; is_read_as(alloc, 3, &three.1, (48, 49, 65606), &[1])?);
-    Ok(())
+    expect_rolled(&rt, alloc, one, FIRST)?;
+    expect_rolled(&rt, alloc, two, SECOND)?;
+    expect_rolled(&rt, alloc, three, THIRD)
 }
 
 // What there is to find where file 1 has the one byte 1.
@@ -405,9 +475,7 @@ fn write_from_two_threads<R: Threads + Wait + Sync>(
 fn threads_share_a_writer_under_a_lock(rt: HostRuntime) -> Result<(), Fail> {
     let alloc = rt.alloc();
     let (mut drawer, taker) = ring(alloc, 128, 1)?;
-    for _ in 0..100 {
-        assert!(rt; draw(&mut drawer, mark(alloc)?));
-    }
+    draw_marks(&rt, alloc, &mut drawer, 100)?;
     let writer = opened(alloc, Vec::new(alloc), taker)?;
     let writer = write_from_two_threads(&rt, alloc, writer)?;
     assert_eq!(rt; writer.synced(), 100);
