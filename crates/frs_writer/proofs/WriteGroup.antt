@@ -7,7 +7,8 @@ use Rattle.frs_types.specs.declared.record.Record.{Record}
 use Rattle.frs_types.specs.Records.{Log, IsPlaced}
 use Rattle.frs_disk.specs.declared.disk.Disk.{Ghosts}
 use Rattle.frs_disk.specs.Disk.{Image, Rose}
-use Rattle.frs_disk.specs.Frames.{Within, GoesOn, LeftNoFile}
+use Rattle.frs_disk.specs.Frames.{Within, ChangesOneFile, GoesOn, LeftNoFile}
+use Rattle.frs_disk.proofs.Frames.{changes_one_join}
 use Rattle.frs_disk.proofs.Moments.{within_join}
 use Rattle.frs_segment.specs.declared.layout.Segment.{Segment}
 use Rattle.frs_segment.specs.Segments.{Spells}
@@ -17,9 +18,9 @@ use Rattle.frs_writer.specs.declared.fault.WriteFault.{WriteFault}
 use Rattle.frs_writer.specs.declared.fault.WriteFault.TheVariants.{Disk, Broken, NumberLimit, Memory}
 use Rattle.frs_writer.specs.Groups.{joined_records, lowest_of_last, GathersGroup}
 use Rattle.frs_writer.specs.Invariant.{ShowsFrom}
-use Rattle.frs_writer.specs.Places.{with_newest_grown}
+use Rattle.frs_writer.specs.Places.{with_newest_grown, number_of_newest}
 use Rattle.frs_writer.specs.Writer.{WriterView, IsLog, WasEmpty}
-use Rattle.frs_writer.specs.Writing.{is_due, WritesGroup, StopsWrite, IsLeftRefused, HasMadeNext, IsRolled, TakesMore, SpellsFrom, HoldsFrom, LeavesLog, LeavesShown, IsDurable, HasWriteCause, HasPutCause}
+use Rattle.frs_writer.specs.Writing.{is_due, number_to_write, WritesGroup, StopsWrite, IsLeftRefused, HasMadeNext, IsRolled, TakesMore, SpellsFrom, HoldsFrom, LeavesLog, LeavesShown, IsDurable, HasWriteCause, HasPutCause}
 use Rattle.frs_writer.proofs.Parted.{part, placed_less}
 use Rattle.frs_writer.proofs.LongerLog.{with_more, spells_more, shows_more}
 use Rattle.frs_writer.proofs.HoldsLog.{from_whole}
@@ -172,6 +173,13 @@ module _ {D : Type 0} (g : Ghosts D) (old mid new : WriterView D) (rolled : IsRo
     pending = λ told. durable.pending (subst IsTrue (sym first.told) told);
     whole = λ told. durable.whole (subst IsTrue (sym first.told) told);
   }
+
+  pub joined_file : ((disk : D) (t : ℕ) (c : Image) → t ≤ g.moment disk → g.may_leave disk c → g.left_since disk t c)
+      → ((disk : D) (s t : ℕ) (c : Image) → s ≤ t → g.left_since disk t c → g.left_since disk s c)
+      → ChangesOneFile g (number_to_write old) old.disk mid.disk → ChangesOneFile g (number_of_newest mid.segments) mid.disk new.disk → ChangesOneFile g (number_to_write old) old.disk new.disk
+  joined_file counts earlier first second =
+      changes_one_join g counts earlier (number_to_write old) old.disk mid.disk new.disk first
+      (subst (λ (l : List Segment). ChangesOneFile g (number_of_newest l) mid.disk new.disk) (ap (λ (w : WriterView D). w.segments) rolled.view) second)
 
   pub joined_cause : (not_given : Type 0) (result : Result ℕ WriteFault) → old.ended ≡ None → g.faults mid.disk ≡ g.faults old.disk → (not_given → mid ≡ old)
       → HasPutCause g not_given mid new result → HasWriteCause g old new result

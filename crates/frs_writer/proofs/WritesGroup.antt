@@ -8,7 +8,8 @@ use Rattle.frs_disk.specs.declared.disk.Disk.{Ghosts}
 use Rattle.frs_disk.specs.declared.disk.Fault.{Fault}
 use Rattle.frs_disk.specs.declared.disk.Fault.TheVariants.{Failed, Memory}
 use Rattle.frs_disk.specs.Disk.{Image, Rose, HasCause, bytes_at}
-use Rattle.frs_disk.specs.Frames.{Within, LeftNoFile}
+use Rattle.frs_disk.specs.Frames.{Within, LeftNoFile, ChangesOneFile}
+use Rattle.frs_disk.proofs.Frames.{changes_one_read, only_reads_none}
 use Rattle.frs_segment.specs.declared.layout.Segment.{Segment}
 use Rattle.frs_segment.specs.Segments.{Spells}
 use Rattle.frs_segment.specs.Stores.{LeavesAlike}
@@ -20,7 +21,7 @@ use Rattle.frs_segment.specs.Scanning.{places_of_segment}
 use Rattle.frs_writer.specs.Places.{with_chunk_place, with_newest_grown, length_of_newest, number_of_newest}
 use Rattle.frs_writer.specs.LogImages.{new_segment}
 use Rattle.frs_writer.specs.Writer.{WriterView, IsLog, WasEmpty}
-use Rattle.frs_writer.specs.Writing.{is_due, segments_after_roll, WritesGroup, StopsWrite}
+use Rattle.frs_writer.specs.Writing.{is_due, segments_after_roll, number_to_write, WritesGroup, StopsWrite}
 use Rattle.frs_writer.proofs.GathersGroup.{nothing_gathered, nothing_missed}
 use Rattle.frs_writer.proofs.PutsGroup.{kept_grown, kept_failed, images_shown, group_within_lsns}
 use Rattle.frs_writer.proofs.IsRolled.{kept_same}
@@ -188,6 +189,20 @@ module _ {D : Type 0} (g : Ghosts D) (as_read : (disk : D) → IsTrue (g.tells d
     ];
   }
 
+-- ---- the file that is written
+
+-- where the disk is as it was
+pub changes_none : {D : Type 0} (g : Ghosts D) → ((disk : D) (c : Image) → g.left_since disk (g.moment disk) c → g.may_leave disk c) → (number : ℕ) (disk : D) → ChangesOneFile g number disk disk
+changes_none g only_now number disk = changes_one_read g number disk disk (only_reads_none g only_now disk)
+
+-- where a group was put, or there was none
+pub put_changes : {D : Type 0} (g : Ghosts D) → ((disk : D) (c : Image) → g.left_since disk (g.moment disk) c → g.may_leave disk c)
+    → (old new : D) (before after : Segment) (group : List (List ℕ)) (result : Result ℕ Fault) → IsPut g old new before after group result → ChangesOneFile g before.number old new
+put_changes g only_now old new before after group result put = elim (cases_lt 0 (length group)) [
+  | inl lt ↦ (put.some (omega (arith, lt))).frame
+  | inr ge ↦ subst (λ d. ChangesOneFile g before.number old d) (sym (put.none (omega (arith, ge))).1) (changes_none g only_now before.number old)
+]
+
 -- where nothing was changed
 pub unchanged_stops : {D : Type 0} (g : Ghosts D) (w : WriterView D) (kept : IsKept g w) → w.ended ≡ None → (limit : ℕ) → StopsWrite g limit w w
 unchanged_stops g w kept fine limit = record {
@@ -220,6 +235,10 @@ due w there = ap (λ (b : Bool). if b then w.segments ++ places_of_segment (new_
 
 pub after_roll : {D : Type 0} (w : WriterView D) (n : ℕ) → is_due w ≡ true → number_of_newest w.segments + 1 ≡ n → w.segments ++ places_of_segment (new_segment n (w.synced + 1)) ∷ [] ≡ segments_after_roll w
 after_roll w n there number = ap (λ (k : ℕ). w.segments ++ places_of_segment (new_segment k (w.synced + 1)) ∷ []) (sym number) ∙ sym (due w there)
+
+-- the number of the file that is written, where a new segment is due
+pub number_due : {D : Type 0} (w : WriterView D) (n : ℕ) → is_due w ≡ true → number_of_newest w.segments + 1 ≡ n → number_to_write w ≡ n
+number_due w n there number = ap number_of_newest (sym (after_roll w n there number)) ∙ newest_number w.segments (places_of_segment (new_segment n (w.synced + 1)))
 
 -- ---- faults
 

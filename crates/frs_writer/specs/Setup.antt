@@ -8,6 +8,11 @@ use Rattle.frs_segment.specs.Front.{IsInTheMaking, empty_segment}
 abbrev pub MissesSome : List ℕ → Image → Image → Type 0
 MissesSome numbers old new = (q : ℕ) → (get new q ≡ get old q) ⊎ (Contains numbers q × (get new q ≡ None))
 
+-- of all files but the one of this number it is so
+abbrev pub MissesSomeBeside : ℕ → List ℕ → Image → Image → Type 0
+MissesSomeBeside number numbers old new =
+    (q : ℕ) → q ≢ number → (get new q ≡ get old q) ⊎ (Contains numbers q × (get new q ≡ None))
+
 abbrev pub IsMissingSome : List ℕ → (Image → Type 0) → Image → Type 0
 IsMissingSome numbers outcomes c = (d : Image) × outcomes d × MissesSome numbers d c
 

@@ -43,6 +43,10 @@ segments_after_roll w =
     then w.segments ++ places_of_segment (new_segment (number_of_newest w.segments + 1) (w.synced + 1)) ∷ []
     else w.segments
 
+-- the number of the file that a write goes to: the newest, or the next one where this is due
+abbrev pub number_to_write : {D : Type 0} → WriterView D → ℕ
+number_to_write w = number_of_newest (segments_after_roll w)
+
 -- The next segment was made where it is due, and now none is.
 pub record IsRolled {D : Type 0} (old new : WriterView D) : Type 0 where
   pub view : new ≡ record old { disk = new.disk; segments = segments_after_roll old }

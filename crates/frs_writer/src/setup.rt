@@ -6,7 +6,7 @@ ghost use Rattle.frs_disk.specs.Disk.{IsNumber, HasCause};
 ghost use Rattle.frs_disk.specs.Frames.{CanBeMade, IsSynced, Within, GoesOn};
 ghost use Rattle.frs_segment.specs.Scanning.{places_of_segment};
 ghost use Rattle.frs_writer.specs.LogImages.{new_segment};
-ghost use Rattle.frs_writer.specs.Setup.{MissesSome, IsMissingSome, IsOpening, OpensNext};
+ghost use Rattle.frs_writer.specs.Setup.{MissesSome, MissesSomeBeside, IsMissingSome, IsOpening, OpensNext};
 
 use crate::chunk::Chunk;
 use frs_disk::{Disk, Fault};
@@ -137,6 +137,8 @@ pub(crate) fn open_next<D: Disk>(
     ensures durable { OnOk result (IsSynced D.Disk disk.new number) }
     ensures others { IsTrue (D.tells disk.old) → (q : ℕ) → number < q
         → get (D.reads disk.old) q ≡ None → get (D.reads disk.new) q ≡ None }
+    ensures beside { IsTrue (D.tells disk.old)
+        → MissesSomeBeside number half.now (D.reads disk.old) (D.reads disk.new) }
     ensures pending { (n : ℕ) → D.removing disk.new n → D.removing disk.old n
         ⊎ Contains half.now n }
     ensures frame { GoesOn D.Disk disk.old disk.new }

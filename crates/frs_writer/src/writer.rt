@@ -3,7 +3,7 @@ ghost use Rattle.std.specs.Prelude.{◌≡◌, ◌≢◌, ◌↔◌, ◌+◌, �
 ghost use Rattle.std.specs.FinMap.{entries};
 ghost use mathlib.Core.List.{IsPrefix};
 ghost use Rattle.frs_types.specs.Records.{Log};
-ghost use Rattle.frs_disk.specs.Frames.{GoesOn, NoneRemovedAbove, RemovesBelow};
+ghost use Rattle.frs_disk.specs.Frames.{ChangesOneFile, GoesOn, NoneRemovedAbove, RemovesBelow};
 ghost use Rattle.frs_segment.specs.Segments.{WholeSegment, Spells};
 ghost use Rattle.frs_segment.specs.Stores.{IsFound, LeavesAlike};
 ghost use Rattle.frs_segment.specs.Scanning.{places_of_segment};
@@ -11,7 +11,8 @@ ghost use Rattle.frs_slots.specs.Views.{AreOfOneRing, IsTakenUp, HasRoom};
 ghost use Rattle.frs_writer.specs.declared.fault.WriteFault.TheVariants.{NumberLimit};
 ghost use Rattle.frs_writer.specs.Places.{number_of_newest, chunks_of_newest};
 ghost use Rattle.frs_writer.specs.LogImages.{new_segment};
-ghost use Rattle.frs_writer.specs.Writing.{is_due, IsRolled, WritesGroup, TakesMore, StopsWrite, IsLeftRefused, OfPlacedLog, LeavesFound, IsDurableAtOpening, LeavesLog, LeavesShown, IsDurable, HasOpeningCause, HasWriteCause, HasPutCause};
+ghost use Rattle.frs_writer.specs.Setup.{MissesSomeBeside};
+ghost use Rattle.frs_writer.specs.Writing.{is_due, number_to_write, IsRolled, WritesGroup, TakesMore, StopsWrite, IsLeftRefused, OfPlacedLog, LeavesFound, IsDurableAtOpening, LeavesLog, LeavesShown, IsDurable, HasOpeningCause, HasWriteCause, HasPutCause};
 
 use crate::chunk::Chunk;
 use crate::fault::{NotYet, Refused, WriteFault};
@@ -70,8 +71,9 @@ impl<D: Disk> Writer<D> {
     /// clients.
     ///
     /// It answers `NumberLimit` exactly where the new segment would have the number 2^62, before anything is changed.
-    /// Where it is refused the disk comes back, and files may have been removed or made. Where the log was empty no
-    /// open file that a crash may leave has a record; where there was no file a crash leaves at most one.
+    /// Where it is refused the disk comes back, and half-made files may have been removed and the new one made; all
+    /// other files read as before, whatever is answered. Where the log was empty no open file that a crash may leave
+    /// has a record; where there was no file a crash leaves at most one.
     pub fn new(
         alloc: Global,
         disk: D,
@@ -99,6 +101,12 @@ impl<D: Disk> Writer<D> {
         ensures durable { IfOk result
             (λ w. IsDurableAtOpening D.Disk disk w.disk found.now.half (found.now.greatest + 1)
             found.now.next w.segments) }
+
+        // Whatever is answered, no file is changed but the half-made ones, which may be gone, and the new one.
+        ensures others { IsTrue (D.tells disk) → (IfOk result
+            (λ w. MissesSomeBeside (found.now.greatest + 1) found.now.half (D.reads disk)
+            (D.reads w.disk))) × IfErr result (λ e. MissesSomeBeside (found.now.greatest + 1)
+            found.now.half (D.reads disk) (D.reads e.disk)) }
 
         ensures frame { (IfOk result (λ w. GoesOn D.Disk disk w.disk))
             × IfErr result (λ e. GoesOn D.Disk disk e.disk) }
@@ -264,7 +272,8 @@ impl<D: Disk> Writer<D> {
     /// Writes the next records as one chunk, and answers how many they are: all that are known, up to the limit,
     /// which is 1 to 256, and up to 1 MiB. A record that doesn't fit is kept, and is the first of the next chunk.
     /// Fewer than the limit that all fit come only where the ring was asked for one more in this call and hadn't it,
-    /// and so does 0. Where the newest segment has reached 1 MiB it goes on to a new one first.
+    /// and so does 0. Where the newest segment has reached 1 MiB it goes on to a new one first. No file but the one that
+    /// is written is changed, whatever is answered, and none is removed.
     ///
     /// Once it answers Ok every record that it counts is durable, the newest open files are its segments, chunk by
     /// chunk, and all images that a crash may leave spell the log by the same files. Where it is refused with `Disk`,
@@ -285,6 +294,10 @@ impl<D: Disk> Writer<D> {
         // What a crash in the call leaves, and what one after it does.
         ensures crash { LeavesLog D.Disk self.old self.new }
         ensures durable { OnOk result (IsDurable D.Disk self.old self.new) }
+
+        // Whatever is answered, no file is changed but the one that is written.
+        ensures one_file { ChangesOneFile D.Disk (number_to_write self.old)
+            self.old.disk self.new.disk }
 
         ensures frame { GoesOn D.Disk self.old.disk self.new.disk }
     {
@@ -334,6 +347,8 @@ impl<D: Disk> Writer<D> {
             × (is_due self.old ≡ true)) }
         ensures crash { LeavesLog D.Disk self.old self.new }
         ensures shown { LeavesShown D.Disk self.old self.new }
+        ensures one_file { ChangesOneFile D.Disk (number_to_write self.old)
+            self.old.disk self.new.disk }
         ensures frame { GoesOn D.Disk self.old.disk self.new.disk }
     {
         if !self.is_due() {
@@ -382,6 +397,8 @@ impl<D: Disk> Writer<D> {
         ensures same { TakesMore self.old self.new }
         ensures crash { LeavesLog D.Disk self.old self.new }
         ensures durable { OnOk result (IsDurable D.Disk self.old self.new) }
+        ensures one_file { ChangesOneFile D.Disk (number_of_newest self.old.segments)
+            self.old.disk self.new.disk }
         ensures frame { GoesOn D.Disk self.old.disk self.new.disk }
     {
         let newest = self.segments.len() - 1;

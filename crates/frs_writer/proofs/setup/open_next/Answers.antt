@@ -1,4 +1,4 @@
-use Rattle.std.proofs.Common.{◌≡◌, inr, refl, ◌∙◌, ⊎_elim, IsTrue, sym, subst, arith}
+use Rattle.std.proofs.Common.{◌≡◌, inl, inr, refl, ◌∙◌, ⊎_elim, IsTrue, sym, subst, arith}
 use Rattle.std.proofs.lemmas.Result.{on_ok_weaker}
 use Rattle.frs_disk.specs.Disk.{Image}
 use Rattle.frs_disk.proofs.Frames.{goes_on_join, changes_go_on}
@@ -55,3 +55,12 @@ returns-clause-read g c =
     (d.reads c.args.disk.now, refl, c.remove_all.ensures.removed told) (c.open_segment.ensures.frame.others mid)
     (subst (IsInTheMaking c.args.number c.args.first) (sym (made mid)) (inr refl)))
     c.open_segment.ensures.made
+
+pub returns-clause-beside : goal.returns-clause-beside
+returns-clause-beside g c told q other =
+    let mid : IsTrue (g.D.Disk.tells c.remove_all.new.disk) = subst IsTrue (sym c.remove_all.ensures.frame.told) told in
+    let same = c.open_segment.ensures.frame.others mid q other in
+    ⊎_elim (λ was. inl (same ∙ was)) (λ gone. inr (gone.0, same ∙ gone.1)) (c.remove_all.ensures.removed told q)
+
+pub returns-in_err-remove_all-clause-beside : goal.returns-in_err-remove_all-clause-beside
+returns-in_err-remove_all-clause-beside g c told q other = c.remove_all.ensures.removed told q

@@ -1,8 +1,8 @@
-use Rattle.std.proofs.Common.{◌≡◌, ◌∙◌, ◌<◌, ◌+◌, ℕ, List, [], length, IsSome, refl, sym, ap, subst, arith}
+use Rattle.std.proofs.Common.{◌≡◌, inl, ◌∙◌, ◌<◌, ◌+◌, ℕ, List, [], length, IsSome, refl, sym, ap, subst, arith}
 use Rattle.std.specs.Prelude.{All}
 use Rattle.std.specs.List.Sorted.{IsStrictlyIncreasing}
 use Rattle.std.specs.FinMap.{get}
-use Rattle.frs_writer.specs.Setup.{OpensNext}
+use Rattle.frs_writer.specs.Setup.{MissesSomeBeside, OpensNext}
 use Rattle.frs_writer.proofs.WriterNew.{none_pends, found_read, alike_still, unchanged_found, opening_found, kept_begun, durable_none, none_failed}
 use Rattle.frs_writer.proofs.IsFound.{found_half, found_rising, found_above, found_none_removed}
 use Rattle.frs_writer.proofs.writer.Writer.new.Goals as goal
@@ -94,3 +94,23 @@ returns-clause-durable g c = record {
       c.args.clients c.requires.clients [] [] 0 c.open_next.ensures.frame.time.later c.open_next.ensures.frame.told c.in_default-open_next.ensures.durable (λ told. (c.in_default-open_next.ensures.made told).made)
       c.open_next.ensures.others c.open_next.ensures.pending c.in_default-open_next.ensures.read;
 }
+
+pub returns-in-Err-clause-others : goal.returns-in-Err-clause-others
+returns-in-Err-clause-others g c told = (
+  tt,
+  subst (λ (half : List ℕ). MissesSomeBeside (c.args.found.now.greatest + 1) half (g.D.Disk.reads c.args.disk) (g.D.Disk.reads c.open_next.new.disk)) c.items.ensures
+      (c.open_next.ensures.beside told),
+)
+
+pub returns-clause-others : goal.returns-clause-others
+returns-clause-others g c told = (
+  subst (λ (half : List ℕ). MissesSomeBeside (c.args.found.now.greatest + 1) half (g.D.Disk.reads c.args.disk) (g.D.Disk.reads c.open_next.new.disk)) c.items.ensures
+      (c.open_next.ensures.beside told),
+  tt,
+)
+
+pub returns-then-number-eq-NUMBER_LIMIT-clause-others : goal.returns-then-number-eq-NUMBER_LIMIT-clause-others
+returns-then-number-eq-NUMBER_LIMIT-clause-others g c told = (tt, λ q other. inl refl)
+
+pub returns-in_default-clause-others : goal.returns-in_default-clause-others
+returns-in_default-clause-others g c told = (tt, λ q other. inl refl)

@@ -12,11 +12,11 @@ use Rattle.frs_writer.specs.Invariant.{IsKept}
 use Rattle.frs_writer.specs.LogImages.{new_segment}
 use Rattle.frs_writer.specs.Places.{number_of_newest, length_of_newest, chunks_of_newest}
 use Rattle.frs_writer.specs.Writer.{WriterView}
-use Rattle.frs_writer.specs.Writing.{is_due, segments_after_roll, IsRolled, LeavesLog, LeavesShown}
+use Rattle.frs_writer.specs.Writing.{is_due, segments_after_roll, number_to_write, IsRolled, LeavesLog, LeavesShown}
 use Rattle.frs_writer.proofs.LeavesLog.{leaves_shown, unchanged_leaves, unchanged_shown}
 use Rattle.frs_writer.proofs.IsRolled.{at_newest, number_at_newest, kept_cut, kept_rolled, rolled_images}
 use Rattle.frs_writer.proofs.Places.{newest_length, newest_chunks, fresh}
-use Rattle.frs_writer.proofs.WritesGroup.{after_roll, broke, not_broken}
+use Rattle.frs_writer.proofs.WritesGroup.{after_roll, changes_none, number_due, broke, not_broken}
 use Rattle.frs_writer.proofs.writer.Writer.roll.Goals as goal
 
 -- ---- where nothing was changed
@@ -321,3 +321,50 @@ returns-clause-room g c =
     ∙ ap (λ (x : Segment). w.segments ++ x ∷ []) (fresh (c.index.result.now.number + 1) (w.synced + 1))
     ∙ ap (λ (n : ℕ). w.segments ++ places_of_segment (new_segment n (w.synced + 1)) ∷ []) number in
     (c.in-Ok.ensures.items, omega (arith, c.in-Ok.ensures.capacity, c.in-Ok.room.ok, ap length c.in-Ok.ensures.items), ap chunks_of_newest items ∙ newest_chunks w.segments next)
+
+-- ---- the file that is written
+
+pub returns-clause-one_file : goal.returns-clause-one_file
+returns-clause-one_file g c =
+    let d = g.D.Disk in
+    let w : WriterView g.row.D.Denot = view_of c.self.inside in
+    let kept = c.self.invariant.kept_is in
+    let fine : w.ended ≡ None = ap (λ (v : WriterView g.row.D.Denot). v.ended) c.self.view_is ∙ c.requires in
+    let newest = at_newest d g.met.D.Disk.counts_now g.met.D.Disk.stays_absent w kept fine w.disk c.index.result.now c.len.result (c.len.ensures ∙ c.self.inside.segments.ok.0) c.index.ensures in
+    let due : is_due w ≡ true = ap is_due c.self.view_is ∙ sym c.is_due.ensures ∙ c.if-not-is_due.false in
+    let mid = c.open_segment.new.disk in
+    let number : c.index.result.now.number + 1 ≡ kept.counted.newest.number + 1 = ap (λ (s : Segment). s.number + 1) newest in
+    let numbers = number_at_newest d g.met.D.Disk.counts_now g.met.D.Disk.stays_absent w kept fine w.disk c.index.result.now newest in
+    let written : number_to_write w ≡ c.index.result.now.number + 1 = number_due w (c.index.result.now.number + 1) due numbers in
+    subst (λ (v : WriterView g.row.D.Denot). ChangesOneFile d (number_to_write v) v.disk mid) c.self.view_is
+    (subst (λ (n : ℕ). ChangesOneFile d n w.disk mid) (sym written) c.open_segment.ensures.frame)
+
+pub returns-in-Err-clause-one_file : goal.returns-in-Err-clause-one_file
+returns-in-Err-clause-one_file g c =
+    let d = g.D.Disk in
+    let w : WriterView g.row.D.Denot = view_of c.self.inside in
+    let kept = c.self.invariant.kept_is in
+    let fine : w.ended ≡ None = ap (λ (v : WriterView g.row.D.Denot). v.ended) c.self.view_is ∙ c.requires in
+    let newest = at_newest d g.met.D.Disk.counts_now g.met.D.Disk.stays_absent w kept fine w.disk c.index.result.now c.len.result (c.len.ensures ∙ c.self.inside.segments.ok.0) c.index.ensures in
+    let due : is_due w ≡ true = ap is_due c.self.view_is ∙ sym c.is_due.ensures ∙ c.if-not-is_due.false in
+    let mid = c.open_segment.new.disk in
+    let number : c.index.result.now.number + 1 ≡ kept.counted.newest.number + 1 = ap (λ (s : Segment). s.number + 1) newest in
+    let numbers = number_at_newest d g.met.D.Disk.counts_now g.met.D.Disk.stays_absent w kept fine w.disk c.index.result.now newest in
+    let written : number_to_write w ≡ c.index.result.now.number + 1 = number_due w (c.index.result.now.number + 1) due numbers in
+    subst (λ (v : WriterView g.row.D.Denot). ChangesOneFile d (number_to_write v) v.disk mid) c.self.view_is
+    (subst (λ (n : ℕ). ChangesOneFile d n w.disk mid) (sym written) c.open_segment.ensures.frame)
+
+pub returns-then-not-is_due-clause-one_file : goal.returns-then-not-is_due-clause-one_file
+returns-then-not-is_due-clause-one_file g c = changes_none g.D.Disk g.met.D.Disk.only_now (number_to_write c.args.self.now) c.args.self.now.disk
+
+pub returns-then-number-eq-NUMBER_LIMIT-clause-one_file : goal.returns-then-number-eq-NUMBER_LIMIT-clause-one_file
+returns-then-number-eq-NUMBER_LIMIT-clause-one_file g c = changes_none g.D.Disk g.met.D.Disk.only_now (number_to_write c.args.self.now) c.args.self.now.disk
+
+pub returns-in_default-clause-one_file : goal.returns-in_default-clause-one_file
+returns-in_default-clause-one_file g c = changes_none g.D.Disk g.met.D.Disk.only_now (number_to_write c.args.self.now) c.args.self.now.disk
+
+pub returns-then-is_err-clause-one_file : goal.returns-then-is_err-clause-one_file
+returns-then-is_err-clause-one_file g c =
+    let w : WriterView g.row.D.Denot = view_of c.self.inside in
+    subst (λ (v : WriterView g.row.D.Denot). ChangesOneFile g.D.Disk (number_to_write c.args.self.now) v.disk w.disk) c.self.view_is
+    (changes_none g.D.Disk g.met.D.Disk.only_now (number_to_write c.args.self.now) w.disk)

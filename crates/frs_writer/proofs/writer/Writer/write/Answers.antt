@@ -1,19 +1,20 @@
 use Rattle.std.proofs.Common.{◌≡◌, ℕ, ◌+◌, ◌-◌, false, List, [], ◌∷◌, ◌++◌, set, Option, Some, None, refl, sym, ◌∙◌, ap, subst, arith, IsTrue}
 use Rattle.std.specs.Prelude.{IfSome}
 use Rattle.std.proofs.lemmas.List.{set-get_or}
+use Rattle.frs_disk.specs.Frames.{ChangesOneFile}
 use Rattle.frs_segment.specs.declared.layout.Segment.{Segment}
 use Rattle.frs_writer.specs.Groups.{lowest_of_last, PutsGroup}
 use Rattle.frs_writer.specs.Inside.{view_of}
 use Rattle.frs_writer.specs.Invariant.{IsKept}
-use Rattle.frs_writer.specs.Places.{chunks_of_newest}
+use Rattle.frs_writer.specs.Places.{chunks_of_newest, number_of_newest}
 use Rattle.frs_writer.specs.Writer.{WriterView}
 use Rattle.frs_writer.specs.Writing.{is_due, TakesMore, LeavesLog, LeavesShown, IsDurable, StopsWrite}
 use Rattle.frs_writer.proofs.LeavesLog.{leaves_shown, durable_written, unchanged_leaves}
 use Rattle.frs_writer.proofs.GathersGroup.{lowest_named}
 use Rattle.frs_writer.proofs.IsRolled.{at_newest}
-use Rattle.frs_writer.proofs.Places.{taken_out, put_back, newest_chunks}
+use Rattle.frs_writer.proofs.Places.{taken_out, put_back, newest_chunks, newest_number}
 use Rattle.frs_writer.proofs.WriteGroup.{gathered_takes}
-use Rattle.frs_writer.proofs.WritesGroup.{IsPut, at_refusal, ok_kept, err_kept, err_stops, unchanged_stops, put_images, put_wrote, short_here, broke, not_broken, not_due}
+use Rattle.frs_writer.proofs.WritesGroup.{IsPut, changes_none, put_changes, at_refusal, ok_kept, err_kept, err_stops, unchanged_stops, put_images, put_wrote, short_here, broke, not_broken, not_due}
 use Rattle.frs_writer.proofs.writer.Writer.write.Goals as goal
 
 if_some : {X : Type 0} (P Q : X → Type 0) (o : Option X) → ((x : X) → P x → Q x) → IfSome o P → IfSome o Q
@@ -310,3 +311,53 @@ returns-in-Err-clause-same g c =
     let (group, gathered, none, some, chunk_count, chunk_lowest) = c.put_group-written.ensures.put in
     let last : WriterView g.row.D.Denot = record { opened = w.opened; disk = c.put_group-written.new.disk; taker = t; kept = still; segments = segments; noted = w.noted; pins = w.pins; older = w.older; synced = w.synced; lowest = w.lowest; ended = Some c.in-Err.fault } in
     subst (λ (v : WriterView g.row.D.Denot). TakesMore v last) c.self.view_is (gathered_takes c.args.limit w last w.kept still group gathered refl refl refl refl)
+
+-- ---- the file that was written
+
+pub returns-in_err-places-clause-one_file : goal.returns-in_err-places-clause-one_file
+returns-in_err-places-clause-one_file g c =
+    let w : WriterView g.row.D.Denot = view_of c.self.inside in
+    subst (λ (v : WriterView g.row.D.Denot). ChangesOneFile g.D.Disk (number_of_newest c.args.self.now.segments) v.disk w.disk) c.self.view_is
+    (changes_none g.D.Disk g.met.D.Disk.only_now (number_of_newest c.args.self.now.segments) w.disk)
+
+pub returns-in-Ok-clause-one_file : goal.returns-in-Ok-clause-one_file
+returns-in-Ok-clause-one_file g c =
+    let d = g.D.Disk in
+    let w : WriterView g.row.D.Denot = view_of c.self.inside in
+    let counted = c.self.invariant.kept_is.counted in
+    let mid = c.put_group-written.new.disk in
+    let after = c.put_group-written.new.segment in
+    let at : ℕ = c.len-newest.result - 1 in
+    let at_is = ap (λ (n : ℕ). n - 1) (c.len-newest.ensures ∙ c.self.inside.segments.ok.0) in
+    let (group, gathered, none, some, chunk_count, chunk_lowest) = c.put_group-written.ensures.put in
+    let before = taken_out w.segments counted.older counted.newest c.index_mut.result.now c.take_places.new.segment c.index_mut-2.result.now c.in_ok-places.places.items at
+    counted.segments at_is c.index_mut.ensures.value c.in_ok-places.ensures.taken.0 c.in_ok-places.ensures.rest c.index_mut-2.ensures.value in
+    let put : IsPut d w.disk mid counted.newest after group c.put_group-written.result = record {
+      none = λ zero. let (ok, same, segment) = none zero in (ok, same, segment ∙ before);
+      some = λ one. subst (λ (s : Segment). PutsGroup d w.disk mid s after group c.put_group-written.result) before (some one);
+    } in
+    let number : counted.newest.number ≡ number_of_newest c.args.self.now.segments =
+    sym (newest_number counted.older counted.newest) ∙ ap number_of_newest (sym counted.segments) ∙ ap (λ (v : WriterView g.row.D.Denot). number_of_newest v.segments) c.self.view_is in
+    subst (λ (v : WriterView g.row.D.Denot). ChangesOneFile d (number_of_newest c.args.self.now.segments) v.disk mid) c.self.view_is
+    (subst (λ (n : ℕ). ChangesOneFile d n w.disk mid) number (put_changes d g.met.D.Disk.only_now w.disk mid counted.newest after group c.put_group-written.result put))
+
+pub returns-in-Err-clause-one_file : goal.returns-in-Err-clause-one_file
+returns-in-Err-clause-one_file g c =
+    let d = g.D.Disk in
+    let w : WriterView g.row.D.Denot = view_of c.self.inside in
+    let counted = c.self.invariant.kept_is.counted in
+    let mid = c.put_group-written.new.disk in
+    let after = c.put_group-written.new.segment in
+    let at : ℕ = c.len-newest.result - 1 in
+    let at_is = ap (λ (n : ℕ). n - 1) (c.len-newest.ensures ∙ c.self.inside.segments.ok.0) in
+    let (group, gathered, none, some, chunk_count, chunk_lowest) = c.put_group-written.ensures.put in
+    let before = taken_out w.segments counted.older counted.newest c.index_mut.result.now c.take_places.new.segment c.index_mut-2.result.now c.in_ok-places.places.items at
+    counted.segments at_is c.index_mut.ensures.value c.in_ok-places.ensures.taken.0 c.in_ok-places.ensures.rest c.index_mut-2.ensures.value in
+    let put : IsPut d w.disk mid counted.newest after group c.put_group-written.result = record {
+      none = λ zero. let (ok, same, segment) = none zero in (ok, same, segment ∙ before);
+      some = λ one. subst (λ (s : Segment). PutsGroup d w.disk mid s after group c.put_group-written.result) before (some one);
+    } in
+    let number : counted.newest.number ≡ number_of_newest c.args.self.now.segments =
+    sym (newest_number counted.older counted.newest) ∙ ap number_of_newest (sym counted.segments) ∙ ap (λ (v : WriterView g.row.D.Denot). number_of_newest v.segments) c.self.view_is in
+    subst (λ (v : WriterView g.row.D.Denot). ChangesOneFile d (number_of_newest c.args.self.now.segments) v.disk mid) c.self.view_is
+    (subst (λ (n : ℕ). ChangesOneFile d n w.disk mid) number (put_changes d g.met.D.Disk.only_now w.disk mid counted.newest after group c.put_group-written.result put))

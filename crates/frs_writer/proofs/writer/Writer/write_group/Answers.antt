@@ -1,7 +1,8 @@
 use Rattle.std.proofs.Common.{refl, ap}
 use Rattle.std.proofs.lemmas.Result.{on_ok_weaker, on_err_weaker}
-use Rattle.frs_writer.proofs.WriteGroup.{joined_leaves, joined_durable, joined_takes, joined_refused, takes_none, stopped_refused, roll_refused}
-use Rattle.frs_writer.proofs.WritesGroup.{at_refusal}
+use Rattle.frs_writer.specs.Writing.{number_to_write}
+use Rattle.frs_writer.proofs.WriteGroup.{joined_leaves, joined_durable, joined_takes, joined_refused, joined_file, takes_none, stopped_refused, roll_refused}
+use Rattle.frs_writer.proofs.WritesGroup.{at_refusal, changes_none}
 use Rattle.frs_writer.proofs.writer.Writer.write_group.Goals as goal
 
 pub returns-clause-crash : goal.returns-clause-crash
@@ -34,3 +35,11 @@ returns-in_err-check-clause-same g c = takes_none c.args.self.now c.args.self.no
 pub returns-in_err-check-clause-refused : goal.returns-in_err-check-clause-refused
 returns-in_err-check-clause-refused g c =
     at_refusal c.from_residual.result (stopped_refused g.D.Disk c.args.limit c.args.self.now c.in_err-check.ensures.stopped)
+
+pub returns-clause-one_file : goal.returns-clause-one_file
+returns-clause-one_file g c =
+    joined_file g.D.Disk c.args.self.now c.roll.new.self c.write.new.self c.in_ok-room.ensures.rolled c.write.ensures.same g.met.D.Disk.counts_now g.met.D.Disk.since_earlier
+    c.roll.ensures.one_file c.write.ensures.one_file
+
+pub returns-in_err-check-clause-one_file : goal.returns-in_err-check-clause-one_file
+returns-in_err-check-clause-one_file g c = changes_none g.D.Disk g.met.D.Disk.only_now (number_to_write c.args.self.now) c.args.self.now.disk
