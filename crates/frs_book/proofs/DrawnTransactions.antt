@@ -1,10 +1,10 @@
 -- What a client's record leaves of the entries and of its own transaction.
-use Rattle.std.proofs.Common.{◌≡◌, ℕ, suc, ◌+◌, ◌<◌, Bool, true, cond, List, [], ◌∷◌, ◌++◌}
+use Rattle.std.proofs.Common.{◌≡◌, ℕ, suc, ◌+◌, ◌<◌, true, cond, List, [], ◌∷◌, ◌++◌}
 use Rattle.std.proofs.Common.{Some, map, length, ap, ◌∙◌, arith, ne_eqb, eq-eqb}
 use Rattle.std.proofs.lemmas.List.{get_or-set_same}
 use Rattle.frs_types.specs.declared.record.Action.{Action}
 use Rattle.frs_types.specs.declared.record.Action.TheVariants as action
-use Rattle.frs_types.specs.Maps.{Place, Table, Change, table_after, table_after_all}
+use Rattle.frs_types.specs.Maps.{Place, Change, table_after, table_after_all}
 use Rattle.frs_types.specs.Lawful.{StoredValue, LogState, is_open_tx, changes_of, with_change, after_change, named_at}
 use Rattle.frs_types.proofs.ActiveChanges.{changes_of_own, changes_of_begun}
 use Rattle.frs_types.proofs.ActiveChanges.{changes_of_none}

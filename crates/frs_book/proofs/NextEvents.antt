@@ -1,8 +1,8 @@
 -- The next event of a client and the state behind it, from the outcome of its command; and that outcome, from the lock
 -- that the command needs and from who hinders the client.
-use Rattle.std.proofs.Common.{◌≡◌, ◌⊎◌, inl, inr, ⊎_elim, ℕ, suc, ◌<◌, ◌≤◌, Bool, true, false, cond, ◌&&◌, ◌==◌, not}
+use Rattle.std.proofs.Common.{◌≡◌, ⊎_elim, ℕ, suc, ◌<◌, Bool, true, false, cond, ◌&&◌, ◌==◌, not}
 use Rattle.std.proofs.Common.{List, [], ◌∷◌, Option, Some, None, length, refl, sym, ap, ◌∙◌, arith, eq-eqb, true≢false}
-use Rattle.std.proofs.Common.{option_map, is_some}
+use Rattle.std.proofs.Common.{option_map}
 use Rattle.std.specs.Prelude.{slice_get, is_none, find, option_and_then}
 use Rattle.std.proofs.lemmas.Bool.{cases_lt}
 use Rattle.std.proofs.lemmas.List.{get_or_past}
@@ -17,10 +17,10 @@ use Rattle.frs_history.specs.declared.event.Reply.{Reply}
 use Rattle.frs_history.specs.declared.event.Reply.TheVariants as reply
 use Rattle.frs_history.specs.declared.event.What.{What}
 use Rattle.frs_history.specs.declared.event.What.TheVariants as what
-use Rattle.frs_history.specs.Machine.{Client, Transaction, State, Scripts, Outcome, client, newcomer, next_line}
+use Rattle.frs_history.specs.Machine.{Client, State, Scripts, client, newcomer, next_line}
 use Rattle.frs_history.specs.Machine.{free_outcome, hindered_outcome, outcome_at, outcome, lock_needed, answer_outcome}
-use Rattle.frs_history.specs.Machine.Transaction.{Outside, Active, Abandoned}
-use Rattle.frs_history.specs.Machine.Outcome.{Answers, Waits_for, Never}
+use Rattle.frs_history.specs.Machine.Transaction.{Abandoned}
+use Rattle.frs_history.specs.Machine.Outcome.{Answers, Waits_for}
 use Rattle.frs_history.specs.Histories.{same_reply, if_answers, if_waits, if_next, is_active, state_at_end, next, moment}
 use Rattle.frs_locks.specs.Answers.{least_client}
 use Rattle.frs_book.specs.Drawn.{action_by, action_at}

@@ -1,9 +1,9 @@
 -- Where each client is in its script, in every history: what is left of the script begins inside a transaction exactly
 -- where the client is inside one, an idle client holds no lock, and a wait is for the lock that the next command needs.
-use Rattle.std.proofs.Common.{◌≡◌, ◌≢◌, ◌⊎◌, inl, inr, ⊎_elim, ℕ, zero, suc, ◌+◌, ◌<◌, ◌≤◌, Bool, true, false, cond, ◌&&◌, ◌==◌}
+use Rattle.std.proofs.Common.{◌≡◌, ◌⊎◌, inl, inr, ⊎_elim, ℕ, suc, ◌+◌, ◌<◌, Bool, true, false, cond, ◌&&◌, ◌==◌}
 use Rattle.std.proofs.Common.{List, [], ◌∷◌, ◌++◌, Option, Some, None, length, drop, refl, sym, ap, ◌∙◌, subst, arith, true≢false}
 use Rattle.std.proofs.Common.{is_some}
-use Rattle.std.specs.Prelude.{slice_get, slice_set, slice_index_or, is_none, option_and_then, replicate}
+use Rattle.std.specs.Prelude.{slice_get, slice_set, slice_index_or, is_none, option_and_then}
 use Rattle.std.proofs.lemmas.Bool.{and_parts, cases_eq}
 use Rattle.std.proofs.lemmas.List.{get_or-set_same, get_or-set_other, length-set, length-replicate, set-get_or}
 use Rattle.std.proofs.lemmas.Option.{same_Some, slice_get_within, get_or_from_slice_get}
@@ -29,6 +29,7 @@ use Rattle.frs_history.specs.Machine.Outcome.{Answers, Waits_for, Never}
 use Rattle.frs_history.specs.Scripts.{may_stand, inside_after, is_bracketed}
 use Rattle.frs_history.specs.Histories.{same_reply, if_answers, if_waits, if_next, is_active, state_at_end, next_by, next, run}
 use Rattle.frs_locks.proofs.NoRing.{holder_same, holder_other}
+use Rattle.frs_book.specs.Ledgers.{script_at}
 use Rattle.frs_book.proofs.Unhindered.{no_lock_no_ring}
 use Rattle.frs_book.proofs.HistoryRuns.{same_everywhere}
 use Rattle.frs_book.proofs.NextEvents.{has_script, has_client}
@@ -38,10 +39,6 @@ abbrev pub is_inside : Transaction → Bool
 is_inside Outside = false
 is_inside (Active sync changes) = true
 is_inside Abandoned = true
-
--- the script of a client; that of client 0 has no line
-abbrev pub script_of : Scripts → ℕ → List Line
-script_of scripts c = slice_index_or ([] ∷ scripts) c []
 
 -- the lock that the next of the lines needs, whoever holds it
 abbrev pub lock_of_line : List Line → Client → Option Lock
@@ -187,7 +184,7 @@ module _ (s : State) (c : ℕ) (own : is_active (client s c).tx ≡ false → (h
 pub record AreClientsAt (scripts : Scripts) (s : State) : Type 0 where
   pub clients : length s.clients ≡ suc (length scripts)
   pub holders : length s.holders ≡ suc (length scripts)
-  pub each : (c : ℕ) → IsClientAt (script_of scripts c) (client s c) (holder_at s.holders c)
+  pub each : (c : ℕ) → IsClientAt (script_at scripts c) (client s c) (holder_at s.holders c)
 
 next_first : (lines : List Line) (n : ℕ) (l : Line) → slice_get lines n ≡ Some l → drop n lines ≡ l ∷ drop (n + 1) lines
 next_first lines n l is =
@@ -211,17 +208,17 @@ moved lines x y h k same also is =
 module _ (scripts : Scripts) (s : State) (all : AreClientsAt scripts s) where
   -- one client changes
   changed : (t : State) (c : ℕ) (x : Client) (h : Holder) → c < suc (length scripts) → t.clients ≡ slice_set s.clients c x
-      → t.holders ≡ slice_set s.holders c h → IsClientAt (script_of scripts c) x h → AreClientsAt scripts t
+      → t.holders ≡ slice_set s.holders c h → IsClientAt (script_at scripts c) x h → AreClientsAt scripts t
   changed t c x h within clients holders is = record {
     clients = ap length clients ∙ length-set s.clients c x ∙ all.clients;
     holders = ap length holders ∙ length-set s.holders c h ∙ all.holders;
     each = λ e. ⊎_elim
-        (λ (same : e ≡ c). subst (λ k. IsClientAt (script_of scripts k) (client t k) (holder_at t.holders k)) (sym same)
-        (moved (script_of scripts c) x (client t c) h (holder_at t.holders c)
+        (λ (same : e ≡ c). subst (λ k. IsClientAt (script_at scripts k) (client t k) (holder_at t.holders k)) (sym same)
+        (moved (script_at scripts c) x (client t c) h (holder_at t.holders c)
         (sym (ap (λ cs. slice_index_or cs c newcomer) clients
         ∙ get_or-set_same s.clients c x newcomer (omega (arith, within, all.clients))))
         (sym (ap (λ hs. holder_at hs c) holders ∙ holder_same s.holders c h (omega (arith, within, all.holders)))) is))
-        (λ other. moved (script_of scripts e) (client s e) (client t e) (holder_at s.holders e) (holder_at t.holders e)
+        (λ other. moved (script_at scripts e) (client s e) (client t e) (holder_at s.holders e) (holder_at t.holders e)
         (sym (ap (λ cs. slice_index_or cs e newcomer) clients ∙ get_or-set_other s.clients c e x newcomer other))
         (sym (ap (λ hs. holder_at hs e) holders ∙ holder_other s.holders c e h other)) (all.each e))
         (cases_eq e c);
@@ -232,8 +229,8 @@ module _ (scripts : Scripts) (s : State) (all : AreClientsAt scripts s) where
   answered c l t at_line is = changed t c (record { done = (client s c).done + 1; tx = is.tx })
       (record { locks = is.locks; waits = None }) (has_script scripts s c l at_line) is.clients is.holders
       (record {
-        placed = ap (λ b. is_bracketed b (drop ((client s c).done + 1) (script_of scripts c))) is.inside
-            ∙ (next_bracketed (script_of scripts c) (client s c) (holder_at s.holders c) (all.each c) l at_line).1;
+        placed = ap (λ b. is_bracketed b (drop ((client s c).done + 1) (script_at scripts c))) is.inside
+            ∙ (next_bracketed (script_at scripts c) (client s c) (holder_at s.holders c) (all.each c) l at_line).1;
         free = is.free;
         waits = inl refl;
       })
@@ -300,7 +297,7 @@ module _ (scripts : Scripts) (s : State) (all : AreClientsAt scripts s) where
   ended c active = changed (state_at_end s c) c (record { done = (client s c).done; tx = Abandoned }) nobody
       (has_client scripts s c all.clients active) refl refl
       (record {
-        placed = ap (λ b. is_bracketed b (drop (client s c).done (script_of scripts c))) (sym (active_inside (client s c).tx active))
+        placed = ap (λ b. is_bracketed b (drop (client s c).done (script_at scripts c))) (sym (active_inside (client s c).tx active))
             ∙ (all.each c).placed;
         free = λ _. refl;
         waits = inl refl;
@@ -352,21 +349,21 @@ placed_after scripts (e ∷ es) s t all is =
     ] refl is
 
 placed_at_start : (scripts : Scripts) (m : Maps) (last : ℕ)
-    → ((c : ℕ) → is_bracketed false (script_of scripts c) ≡ true) → AreClientsAt scripts (start m last (length scripts))
+    → ((c : ℕ) → is_bracketed false (script_at scripts c) ≡ true) → AreClientsAt scripts (start m last (length scripts))
 placed_at_start scripts m last are =
     let n = length scripts in
     record {
       clients = ap suc (length-replicate n newcomer);
       holders = ap suc (length-replicate n nobody);
-      each = λ c. moved (script_of scripts c) newcomer (client (start m last n) c) nobody (holder_at (start m last n).holders c)
+      each = λ c. moved (script_at scripts c) newcomer (client (start m last n) c) nobody (holder_at (start m last n).holders c)
           (sym (same_everywhere n c newcomer)) (sym (same_everywhere n c nobody))
           (record { placed = are c; free = λ _. refl; waits = inl refl });
     }
 
 -- In every history each client is where its script says.
 pub clients_are_placed : (scripts : Scripts) (m : Maps) (last : ℕ) (es : List Event) (s : State)
-    → ((c : ℕ) → is_bracketed false (script_of scripts c) ≡ true) → run scripts (start m last (length scripts)) es ≡ Some s
-    → (c : ℕ) → IsClientAt (script_of scripts c) (client s c) (holder_at s.holders c)
+    → ((c : ℕ) → is_bracketed false (script_at scripts c) ≡ true) → run scripts (start m last (length scripts)) es ≡ Some s
+    → (c : ℕ) → IsClientAt (script_at scripts c) (client s c) (holder_at s.holders c)
 clients_are_placed scripts m last es s are is =
     (placed_after scripts es (start m last (length scripts)) s (placed_at_start scripts m last are) is).each
 

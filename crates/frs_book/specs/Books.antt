@@ -17,7 +17,9 @@ use Rattle.frs_history.specs.declared.event.Event.{Event}
 use Rattle.frs_history.specs.declared.event.Reply.TheVariants as reply
 use Rattle.frs_history.specs.declared.event.What.{What}
 use Rattle.frs_history.specs.declared.event.What.TheVariants as what
-use Rattle.frs_types.specs.Maps.{Table}
+use Rattle.frs_types.specs.declared.record.Entry.{Entry}
+use Rattle.frs_types.specs.Maps.{Place, Maps, Table}
+use Rattle.std.specs.List.{AllByRecursion, sum_by}
 use Rattle.frs_types.specs.Lawful.{StoredValue, plain_maps}
 use Rattle.frs_history.specs.Machine.{State, Scripts, Outcome, start, client, next_line, outcome}
 use Rattle.frs_history.specs.Machine.Outcome.{Answers, Waits_for, Never}
@@ -63,7 +65,15 @@ pub record IsBook (b : BookView) : Type 0 where
   pub drawn : b.drawer.drawn ≡ b.before ++ map spelling (drawn_records b.session)
   pub acks : AreOwed b.acks (acks_owed b.session)
 
+-- one of the clients
+abbrev pub IsClientOf : BookView → ℕ → Type 0
+IsClientOf b c = (1 ≤ c) × (c ≤ length b.session.scripts)
+
 -- ---- a new book
+
+-- each entry has an LSN above 0 and below the next one
+abbrev pub AreBefore : ℕ → List Entry → Type 0
+AreBefore next es = AllByRecursion (λ (e : Entry). (0 < e.lsn) × (e.lsn < next)) es
 
 -- a session without events, whose first record gets the LSN next
 abbrev pub new_session : Scripts → Table StoredValue → ℕ → ℕ → SessionHistory
@@ -114,9 +124,17 @@ lock_wanted scripts s c = option_and_then (λ (l : Line). lock_of_wait (outcome 
 abbrev pub is_finished : Scripts → State → ℕ → Bool
 is_finished scripts s c = is_none (next_line scripts s c) && not (is_active (client s c).tx)
 
+-- every client is finished
+abbrev pub IsWhole : BookView → Type 0
+IsWhole b = (c : ℕ) → IsClientOf b c → is_finished b.session.scripts b.state c ≡ true
+
 abbrev pub is_wait : What → Bool
 is_wait what.Waits = true
 is_wait other = false
+
+-- the bytes of the ids, the keys and the values
+abbrev pub bytes_of_maps : Maps → ℕ
+bytes_of_maps m = sum_by (λ (e : Place × List ℕ). length e.0.0 + (length e.0.1 + length e.1)) m
 
 -- ---- what is prepared for a command
 
@@ -131,7 +149,18 @@ prepared_bytes x = spelling (without_numbers (prepared_action x))
 abbrev pub next_command_of : BookView → ℕ → Option Command
 next_command_of b c = option_map (λ (l : Line). l.command) (next_line b.session.scripts b.state c)
 
+-- the record of the client's next command is prepared
+abbrev pub IsPrepared : BookView → ℕ → Option (List ℕ) → Type 0
+IsPrepared b c framed = framed ≡ Some (prepared_bytes (next_command_of b c))
+
 -- ---- the answers of a step
+
+-- all but the drawing end is as it was
+pub record SameSession (old new : BookView) : Type 0 where
+  pub session : new.session ≡ old.session
+  pub state : new.state ≡ old.state
+  pub acks : new.acks ≡ old.acks
+  pub before : new.before ≡ old.before
 
 -- nothing is changed but what the drawer knows as taken
 pub record SameBook (old new : BookView) : Type 0 where

@@ -1,5 +1,5 @@
 -- The changes of a transaction, and where the newest one of each key stands among them.
-use Rattle.std.specs.Prelude.{◌≡◌, ◌<◌, ℕ, Bool, true, false, List, reverse, length, Option, Some, None, is_some}
+use Rattle.std.specs.Prelude.{◌≡◌, ◌<◌, ℕ, Bool, false, List, reverse, length, Option, Some, None, is_some}
 use Rattle.std.specs.Prelude.{option_map, unwrap_or, slice_get}
 use Rattle.std.specs.Option.{option_or}
 use Rattle.std.specs.List.{find}

@@ -1,5 +1,5 @@
 -- What the newest change of the key leaves, or what the maps have.
-use Rattle.std.proofs.Common.{◌≡◌, ◌∙◌, refl, ap, sym, Some, None, option_copied, option_map, unwrap_or}
+use Rattle.std.proofs.Common.{◌∙◌, refl, ap, sym, Some, None, option_copied, option_map, unwrap_or}
 use Rattle.frs_types.specs.declared.record.Entry.{Entry}
 use Rattle.frs_types.specs.Lawful.{StoredValue}
 use Rattle.frs_book.specs.Changes.{left_by}
