@@ -1,8 +1,9 @@
 //! What is printed of stores, whose files and texts are worked out by hand.
-ghost use Rattle.std.specs.Prelude.{map};
+ghost use Rattle.std.specs.Prelude.{map, IfOk};
 ghost use Rattle.std.specs.List.{AllByRecursion};
 ghost use Rattle.frs_disk.specs.Disk.{IsNumber};
 ghost use Rattle.frs_disk.specs.Files.{AreDistinct};
+ghost use Rattle.frs_recovery.specs.Answers.{IsInRange};
 
 use super::*;
 use frs_disk::{FaultPlan, MemDisk, MemSink};
@@ -86,6 +87,7 @@ fn recovered(
 ) -> Result<Recovered, NoMemory>
     requires in_range { AllByRecursion IsNumber (map (λ f. f.0) files.items) }
     requires distinct { AreDistinct (map (λ f. f.0) files.items) }
+    ensures { IfOk result IsInRange }
 {
     let plan = FaultPlan {
         failing: Vec::new(alloc),
@@ -99,14 +101,18 @@ fn recovered(
 }
 
 // The entries of a store, as they are printed.
-fn printed_maps(alloc: Global, store: &Recovered) -> Result<MemSink, Fail> {
+fn printed_maps(alloc: Global, store: &Recovered) -> Result<MemSink, Fail>
+    requires { IsInRange store.now }
+{
     let mut maps = MemSink::of(alloc, Vec::new(alloc))?;
     dump(alloc, store.entries.items(), &mut maps)?;
     Ok(maps)
 }
 
 // The numbers of a store, as they are printed.
-fn printed_numbers(alloc: Global, store: &Recovered) -> Result<MemSink, Fail> {
+fn printed_numbers(alloc: Global, store: &Recovered) -> Result<MemSink, Fail>
+    requires { IsInRange store.now }
+{
     let mut numbers = MemSink::of(alloc, Vec::new(alloc))?;
     stat_text(alloc, store, &mut numbers)?;
     Ok(numbers)
