@@ -1,4 +1,5 @@
 pub mod AcksCounted
+pub mod AskedByEvents
 pub mod BookGoesOn
 pub mod ClientChanges
 pub mod CommandSteps

@@ -2,6 +2,7 @@
 #![tactic(auto)]
 
 mod agreement;
+mod asked;
 mod book;
 mod change_index;
 mod changes;
@@ -14,6 +15,7 @@ mod steps;
 mod transaction_steps;
 
 pub use agreement::{agreement_kept, shown_commits};
+pub use asked::{alone_is_free, asked_by_events};
 pub use book::Book;
 pub use command_record::prepare;
 pub use step::{Marked, Step};

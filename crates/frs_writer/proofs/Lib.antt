@@ -17,7 +17,7 @@ mod NumbersOf
 mod Parted
 pub mod Places
 mod PutsGroup
-mod ShowsLog
+pub mod ShowsLog
 mod SpellsFrom
 mod TakesNext
 mod TestDisks
