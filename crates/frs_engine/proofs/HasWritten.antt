@@ -15,19 +15,17 @@ use Rattle.frs_disk.specs.Frames.{LeftNoFile, Within}
 use Rattle.frs_frame.specs.Spelling.{spelling}
 use Rattle.frs_segment.specs.declared.layout.Segment.{Segment}
 use Rattle.frs_segment.specs.Segments.{Spells}
-use Rattle.frs_segment.specs.Scanning.{places_of_segment}
 use Rattle.frs_segment.specs.Stores.{SpellsAlike, LeavesAlike, log_up_to}
 use Rattle.frs_slots.specs.Views.{TakerView}
 use Rattle.frs_writer.specs.Groups.{GathersGroup, IsTooLong, joined_records}
 use Rattle.frs_writer.specs.Places.{number_of_newest, with_newest_grown}
-use Rattle.frs_writer.specs.LogImages.{new_segment}
 use Rattle.frs_writer.specs.Writer.{WriterView, IsLog, WasEmpty}
 use Rattle.frs_writer.specs.declared.fault.WriteFault.{WriteFault}
 use Rattle.frs_writer.specs.declared.fault.WriteFault.TheVariants as write
 use Rattle.frs_writer.specs.Writing.{HoldsOnly, HoldsLog, HoldsFrom, HasWriteCause, WritesGroup, is_due, segments_after_roll}
 use Rattle.frs_disk.proofs.NoFiles.{no_entries}
 use Rattle.frs_segment.proofs.IsInOrder.{no_files}
-use Rattle.frs_writer.proofs.Places.{newest_number}
+use Rattle.frs_store.proofs.JournalGoesOn.{grown_number, rolled_number}
 use Rattle.frs_engine.specs.Journal.{HasWritten, HoldsOneMore, log_of, IsOutsideStop, outside_fault, FaultHasCause}
 
 -- ---- lists
@@ -79,28 +77,12 @@ placed_before rs r placed = subst (λ (l : List Record). IsPlaced (log_of l)) (t
 
 -- ---- the number of the newest segment
 
-newest_grown : (count body : ℕ) (segments : List Segment) → number_of_newest (with_newest_grown count body segments) ≡ number_of_newest segments
-newest_grown count body [] = refl
-newest_grown count body (s ∷ []) = refl
-newest_grown count body (s ∷ t ∷ []) = refl
-newest_grown count body (s ∷ t ∷ u ∷ segments) = newest_grown count body (t ∷ u ∷ segments)
-
-newest_rolled : {D : Type 0} (w : WriterView D) → number_of_newest (segments_after_roll w) ≤ number_of_newest w.segments + 1
-newest_rolled w = by (is_due w)
-  where
-    next : Segment
-    next = places_of_segment (new_segment (number_of_newest w.segments + 1) (w.synced + 1))
-
-    by : (b : Bool) → number_of_newest (cond b (w.segments ++ places_of_segment (new_segment (number_of_newest w.segments + 1) (w.synced + 1)) ∷ []) w.segments) ≤ number_of_newest w.segments + 1
-    by true = omega (arith, newest_number w.segments (places_of_segment (new_segment (number_of_newest w.segments + 1) (w.synced + 1))))
-    by false = omega arith
-
 newest_wrote : {D : Type 0} (limit count : ℕ) (old new : WriterView D) → WritesGroup limit count old new → number_of_newest new.segments ≤ number_of_newest old.segments + 1
 newest_wrote limit count old new w = subst (λ (s : List Segment). number_of_newest s ≤ number_of_newest old.segments + 1) (sym w.segments) (by (nat_lt 0 count))
   where
     by : (b : Bool) → number_of_newest (cond b (with_newest_grown count (length (joined_records w.group)) (segments_after_roll old)) (segments_after_roll old)) ≤ number_of_newest old.segments + 1
-    by true = omega (arith, newest_grown count (length (joined_records w.group)) (segments_after_roll old), newest_rolled old)
-    by false = newest_rolled old
+    by true = omega (arith, grown_number count (length (joined_records w.group)) (segments_after_roll old), rolled_number old)
+    by false = rolled_number old
 
 -- ---- a group of one record
 

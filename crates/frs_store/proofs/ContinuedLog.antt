@@ -14,7 +14,7 @@ use Rattle.frs_writer.proofs.IsPlaced.{placed_front, placed_allowed, first_below
 use Rattle.frs_writer.proofs.LongerLog.{with_more}
 
 -- the records of a lawful log stand in their places
-placed : (rs : List Record) → Lawful [] 1 rs → are_placed_from 0 1 rs ≡ true
+pub placed : (rs : List Record) → Lawful [] 1 rs → are_placed_from 0 1 rs ≡ true
 placed rs lawful = lawful_is_placed (settled_state [] 1) 0 rs (none_begun [] 1) (omega arith) lawful
 
 -- What is cut off at the front of a list doesn't change what its newest record names, unless nothing is left.

@@ -1,2 +1,18 @@
-mod ContinuedLog
-mod RecoveredCommits
+pub mod ClosingMark
+pub mod ContinuedLog
+pub mod JournalGoesOn
+mod OpeningMark
+mod OwnNumbers
+pub mod RecoveredCommits
+mod RefusedStart
+mod RunsInOrder
+mod SessionCalls
+mod SessionCloses
+mod SinceStart
+mod StartLaws
+mod StartedStore
+pub mod StepsLeft
+pub mod StoreCalls
+pub mod StoreGoesOn
+mod UnderWay
+mod WrittenMark

@@ -1,22 +1,20 @@
 -- What an image recovers to that spells a front of a store's records: the maps after the commits up to its newest LSN.
-use Rattle.std.proofs.Common.{◌≡◌, ℕ, suc, ◌+◌, ◌-◌, ◌<◌, ◌≤◌, true, List, [], ◌∷◌, ◌++◌, length, fold, take, drop, refl, sym, ap, ◌∙◌, subst, arith}
-use Rattle.std.proofs.Common.{⊎_elim, eq-eqb, take-append-drop, length-append, length-take-le}
+use Rattle.std.proofs.Common.{◌≡◌, ℕ, suc, ◌+◌, ◌-◌, ◌<◌, ◌≤◌, List, [], ◌∷◌, ◌++◌, length, fold, take, drop, refl, sym, ap, ◌∙◌, subst, arith}
+use Rattle.std.proofs.Common.{⊎_elim, take-append-drop, length-append, length-take-le}
 use Rattle.std.specs.FinMap.{entries}
 use Rattle.std.specs.FinMap.Entries.{put}
-use Rattle.std.proofs.lemmas.Bool.{and_from, lt-ltb, le-leb, cases_lt}
-use Rattle.std.proofs.lemmas.List.{length-drop}
+use Rattle.std.proofs.lemmas.Bool.{and_from, cases_lt}
 use Rattle.std.proofs.Math.Seq.{take-append-add, take-append_seam}
 use Rattle.frs_types.specs.declared.record.Entry.{Entry}
 use Rattle.frs_types.specs.declared.record.Record.{Record}
 use Rattle.frs_types.specs.Maps.{Maps, Table, place_cmp, After}
 use Rattle.frs_types.specs.Maps.Change.{Set}
-use Rattle.frs_types.specs.Records.{named_lowest, from_lowest, next_lsn}
+use Rattle.frs_types.specs.Records.{from_lowest, next_lsn}
 use Rattle.frs_types.specs.Survivors.{survivors, maps_of}
-use Rattle.frs_types.specs.Lawful.{StoredValue, LogState, plain_maps, table_of, settled_state, after_record, state_after, lowest, is_lawful}
+use Rattle.frs_types.specs.Lawful.{StoredValue, LogState, plain_maps, table_of, settled_state, after_record, state_after}
 use Rattle.frs_types.specs.Lawful.{are_lawful, Lawful}
 use Rattle.frs_types.proofs.BackwardIsForward.{cut_gives_entries}
 use Rattle.frs_types.proofs.LogStates.{lawful_split, lawful_front, plain_after}
-use Rattle.frs_types.proofs.LowestRises.{least_at_most, needed, named_at_least, named_at_most}
 use Rattle.frs_disk.specs.declared.disk.Disk.{Ghosts}
 use Rattle.frs_disk.specs.Disk.{Image}
 use Rattle.frs_disk.specs.Frames.{Within}
@@ -28,10 +26,11 @@ use Rattle.frs_book.proofs.BookGoesOn.{next_behind}
 use Rattle.frs_book.proofs.HistoryRuns.{session_is_shown}
 use Rattle.frs_store.specs.SessionEnd.{RecoversTo, RecoversFront, RecoversAll, BeginsOn, SessionEnd, IsSessionEnd, SpellsFront}
 use Rattle.frs_store.specs.SessionEnd.{state_of, opening_mark, records_with}
+use Rattle.frs_store.proofs.OpeningMark.{next_from_lowest, mark_is_lawful}
 
 -- ---- records and entries
 
-state_joined : (s : LogState) (rs qs : List Record) → state_after s (rs ++ qs) ≡ state_after (state_after s rs) qs
+pub state_joined : (s : LogState) (rs qs : List Record) → state_after s (rs ++ qs) ≡ state_after (state_after s rs) qs
 state_joined s [] qs = refl
 state_joined s (r ∷ rs) qs = state_joined (after_record s r) rs qs
 
@@ -44,7 +43,7 @@ maps_from (e ∷ es) t =
     ∙ maps_from es (put place_cmp (e.id, e.key) (record { value = e.value; lsn = e.lsn }) t)
 
 -- the maps of entries are those of their table
-maps_are_plain : (es : List Entry) → maps_of es ≡ plain_maps (table_of es)
+pub maps_are_plain : (es : List Entry) → maps_of es ≡ plain_maps (table_of es)
 maps_are_plain es = maps_from es []
 
 after_none : (m : Maps) (cs : List Changes) → After m cs 0 ≡ m
@@ -65,30 +64,16 @@ module _ (before : List Record) (h : SessionHistory) (begins : BeginsOn before h
       let behind : (state_of before).next ≡ 1 + length before = next_behind before (settled_state [] 1) in
       omega (arith, behind, begins.opening)
 
-  lowest_above : 0 < lowest (state_of before)
-  lowest_above =
-      let least : 1 ≤ named_lowest before = named_at_least before begins.lawful in
-      let most : named_lowest before ≤ lowest (state_of before) = named_at_most before begins.lawful in
-      omega (arith, least, most)
-
-  -- the opening mark lawfully follows, and then the session's records do
-  mark_is_lawful : is_lawful (state_of before) (opening_mark before) ≡ true
-  mark_is_lawful =
-      let above : 0 < (state_of before).next = omega (arith, next_is, begins.opening) in
-      and_from _ _ (and_from _ _ (and_from _ _ (and_from _ _ (and_from _ _ (and_from _ _ refl (lt-ltb _ _ above)) (lt-ltb _ _ lowest_above))
-      (le-leb _ _ (least_at_most (state_of before).next (needed (state_of before))))) refl)
-      (eq-eqb (lowest (state_of before)) (lowest (state_of before)) refl)) refl
-
   behind_mark : after_record (state_of before) (opening_mark before) ≡ (opened h).log
   behind_mark i = record { entries = (sym begins.entries) i; active = []; next = next_is i + 1 }
 
-  all_lawful : Lawful [] 1 all
+  pub all_lawful : Lawful [] 1 all
   all_lawful =
       lawful_split (settled_state [] 1) before (opening_mark before ∷ drawn_records h)
-      ∙ and_from _ _ begins.lawful (and_from _ _ mark_is_lawful
+      ∙ and_from _ _ begins.lawful (and_from _ _ (mark_is_lawful before begins.lawful)
       (ap (λ s. are_lawful s (drawn_records h)) behind_mark ∙ shown.lawful))
 
-  front_lawful : (n : ℕ) → Lawful [] 1 (take n all)
+  pub front_lawful : (n : ℕ) → Lawful [] 1 (take n all)
   front_lawful n = lawful_front [] 1 (take n all) (drop n all) (subst (Lawful [] 1) (sym (take-append-drop n all)) all_lawful)
 
   -- before the opening mark no commit counts
@@ -120,15 +105,7 @@ module _ (before : List Record) (h : SessionHistory) (begins : BeginsOn before h
       (cases_lt n h.opening)
 
   newest_at : (n : ℕ) → n ≤ length all → next_lsn (from_lowest 1 (take n all)) ≡ n + 1
-  newest_at n most =
-      let front = take n all in
-      let count : length front ≡ n = length-take-le n all most in
-      let left : length (drop (named_lowest front - 1) front) ≡ length front - (named_lowest front - 1) = length-drop (named_lowest front - 1) front in
-      let one : 1 ≤ named_lowest front = named_at_least front (front_lawful n) in
-      let named : named_lowest front ≤ lowest (state_of front) = named_at_most front (front_lawful n) in
-      let below : lowest (state_of front) ≤ (state_of front).next = least_at_most (state_of front).next (needed (state_of front)) in
-      let next : (state_of front).next ≡ 1 + length front = next_behind front (settled_state [] 1) in
-      omega (arith, count, left, one, named, below, next)
+  newest_at n most = next_from_lowest (take n all) (front_lawful n) ∙ ap (λ k. k + 1) (length-take-le n all most)
 
   -- An image that spells the records up to an LSN recovers to the maps after the commits up to it.
   pub recovers : (n : ℕ) (image : FileList) → length before ≤ n → n ≤ length all → Spells image (from_lowest 1 (take n all))
