@@ -1,11 +1,12 @@
 pub mod ClosingMark
 pub mod ContinuedLog
 pub mod JournalGoesOn
+mod MetStops
 mod OpeningMark
 mod OwnNumbers
 pub mod RecoveredCommits
 mod RefusedStart
-mod RunsInOrder
+pub mod RunsInOrder
 mod SessionCalls
 mod SessionCloses
 mod SinceStart

@@ -103,7 +103,12 @@ module _ {D : Type 0} (g : Ghosts D)
     cause.0 ∙ found.faults,
     subst (OnlyReads g old) (sym cause.3) found.looked,
     cause.1,
-    λ told. sym cause.2 ∙ ap (λ n. n + 1) (found.found told).2.found.greatest_is,
+    λ told. let its = found.found told in record {
+      log = its.1;
+      spelled = (its.0, its.2.found.spelled);
+      left = omega (arith, found.below, its.2.found.next_is);
+      behind = sym cause.2 ∙ ap (λ n. n + 1) its.2.found.greatest_is;
+    },
   )
   segment_cause last Memory cause = cause.0 ∙ found.faults
 

@@ -69,14 +69,14 @@ commits_at_most h legal n =
 -- ---- runs
 
 -- how many commits of a session stay, and that what it left recovers to them
-record Stays (ended : RunEnd) (h : SessionHistory) (left : Image) : Type 0 where
-  count : ℕ
-  most : count ≤ length (commits_in h)
-  which : StayBy ended h count
-  newest : ℕ
-  recovers : RecoversTo (entries left) newest (After (plain_maps h.entries) (commits_in h) count)
+pub record Stays (ended : RunEnd) (h : SessionHistory) (left : Image) : Type 0 where
+  pub count : ℕ
+  pub most : count ≤ length (commits_in h)
+  pub which : StayBy ended h count
+  pub newest : ℕ
+  pub recovers : RecoversTo (entries left) newest (After (plain_maps h.entries) (commits_in h) count)
 
-stays : (ended : RunEnd) (h : SessionHistory) (left : Image) → IsSession h → HasLeft ended h left → Stays ended h left
+pub stays : (ended : RunEnd) (h : SessionHistory) (left : Image) → IsSession h → HasLeft ended h left → Stays ended h left
 stays (AtCrash durable) h left legal (n, least, to) = record {
   count = commits_up_to h n;
   most = commits_at_most h legal n;

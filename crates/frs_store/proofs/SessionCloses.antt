@@ -17,14 +17,13 @@ use Rattle.frs_types.proofs.LogStates.{lawful_front}
 use Rattle.frs_types.proofs.LowestRises.{least_at_most, needed, named_at_least, named_at_most}
 use Rattle.frs_disk.specs.declared.disk.Disk.{Ghosts}
 use Rattle.frs_disk.specs.Disk.{Image}
-use Rattle.frs_disk.specs.Frames.{Within, RemovesBelow}
+use Rattle.frs_disk.specs.Frames.{Within, GoesOn, RemovesBelow}
 use Rattle.frs_disk.proofs.Moments.{passes_none}
 use Rattle.frs_frame.specs.Spelling.{spelling}
 use Rattle.frs_segment.specs.Segments.{Spells}
 use Rattle.frs_segment.specs.Stores.{SpellsAlike, LeavesAlike}
 use Rattle.frs_recovery.specs.Sound.{IsReady}
 use Rattle.frs_slots.specs.Views.{next_drawn}
-use Rattle.frs_writer.specs.Places.{number_of_newest}
 use Rattle.frs_writer.specs.Writer.{IsLog}
 use Rattle.frs_writer.specs.Writing.{SpellsFrom, OfPlacedLog}
 use Rattle.frs_writer.proofs.LongerLog.{with_more}
@@ -37,9 +36,10 @@ use Rattle.frs_store.specs.declared.store.Store.{Store}
 use Rattle.frs_store.specs.Closed.{EndsOnReady, IsStoreAtEnd, IsClosed}
 use Rattle.frs_store.specs.Journal.{IsJournal}
 use Rattle.frs_store.specs.Session.{SessionView, IsUnderWay, IsOnStore, IsOfSession, IsGoing, SameStart, HasStopCause, MissesAtMostOne, faults_of}
-use Rattle.frs_store.specs.Stops.{StopHasCause}
+use Rattle.frs_store.specs.Stops.{StopHasCause, StopMet}
 use Rattle.frs_store.specs.SessionEnd.{SessionEnd, IsSessionEnd, SpellsFront, MissesAtMostLast, acks_of, opening_mark, records_with, state_of}
 use Rattle.frs_store.proofs.ContinuedLog.{placed, goes_on}
+use Rattle.frs_store.proofs.MetStops.{stop_met}
 use Rattle.frs_store.proofs.RecoveredCommits.{all_lawful, front_lawful}
 
 -- ---- lists
@@ -235,10 +235,11 @@ module _ {D : Type 0} (g : Ghosts D) (s : SessionView D) (is : IsUnderWay g s) w
       state = refl;
       acks = refl;
       owed = is.owed;
-      kept = λ old was. (sym some ∙ was, refl);
+      kept = λ old was. (sym some ∙ was, refl, refl);
       met = λ none. absurd (some_none (sym some ∙ none));
       all = λ none. absurd (some_none none);
     };
+    cause = λ none. absurd (some_none (sym some ∙ none));
     going = λ none. absurd (some_none none);
     durable = λ none. absurd (some_none none);
   }
@@ -246,7 +247,7 @@ module _ {D : Type 0} (g : Ghosts D) (s : SessionView D) (is : IsUnderWay g s) w
   -- the store was closed, and has answered this
   module _ (new : Store D) (asks_nothing : acks_owed (closed_session s.store.book.session) ≡ acks_owed s.store.book.session)
       (none : s.stop ≡ None) (session : IsOfSession g new) (same : SameStart g s.store new)
-      (state : new.book.state ≡ s.store.book.state) (acks : new.book.acks ≡ s.store.book.acks) where
+      (state : new.book.state ≡ s.store.book.state) (acks : new.book.acks ≡ s.store.book.acks) (journal : IsJournal g new.journal) (book : IsBook new.book) where
     owed_by : (h : SessionHistory) → new.book.session ≡ h → acks_owed h ≡ acks_owed s.store.book.session
         → MissesAtMostOne (acks_owed new.book.session) new.book.acks
     owed_by h its same_owed =
@@ -275,6 +276,7 @@ module _ {D : Type 0} (g : Ghosts D) (s : SessionView D) (is : IsUnderWay g s) w
         met = λ _ stop met. absurd (some_none (sym met));
         all = λ _. (ap acks_owed closed ∙ asks_nothing ∙ is.settled none ∙ sym acks, closed, cause);
       };
+      cause = λ _ stop met. absurd (some_none (sym met));
       going = λ _. going.filled.going;
       durable = λ _. durable;
     }
@@ -287,10 +289,14 @@ module _ {D : Type 0} (g : Ghosts D) (s : SessionView D) (is : IsUnderWay g s) w
         acks = acks;
         owed = owed_now refused;
         kept = λ old was. absurd (some_none (sym was ∙ none));
-        met = λ _ other met. (let its : stop ≡ other = cc in
-            subst (StopHasCause (faults_of g s.store) (faults_of g new) (next_drawn new.book.drawer) (number_of_newest new.journal.writer.segments)) its cause);
+        met = λ _ other told. (let its : stop ≡ other = cc in
+            subst (StopMet (faults_of g s.store) (faults_of g new) s.store.journal.number new.book.session) its
+            (subst (λ n. StopMet (faults_of g s.store) (faults_of g new) n new.book.session stop) same.number
+            (stop_met g new session journal book (faults_of g s.store) (faults_of g new) stop cause)));
         all = λ no. absurd (some_none no);
       };
+      cause = λ _ other told. (let its : stop ≡ other = cc in
+          subst (StopHasCause (faults_of g s.store) (faults_of g new) (next_drawn new.book.drawer) new.journal.writer) its cause);
       going = λ no. absurd (some_none no);
       durable = λ no. absurd (some_none no);
     }
@@ -321,6 +327,7 @@ module _ {D : Type 0} (g : Ghosts D) (s : SessionView D) (last : Store D) (stop 
         taken = is.taken;
         clients = is.clients;
         one = is.one;
+        opening = is.opening;
         acked = is.acked;
         store = λ told ready. let on = is.store told ready in record {
           before = on.before;
@@ -355,9 +362,9 @@ module _ {D : Type 0} (g : Ghosts D) (s : SessionView D) (last : Store D) (stop 
         → (last.journal.writer.ended ≡ None → IsTrue (g.tells last.journal.writer.disk) → RemovesBelow g last.journal.writer.disk)
         → IsClosed g s (record { book = last.book; disk = last.journal.writer.disk; stop = stop })
     closes as_read alike pending = record {
-      writer = last.journal.writer;
-      disk = refl;
       frame = ended.same.frame;
+      since = subst (λ disk. GoesOn g disk last.journal.writer.disk) ended.same.start journal.frame;
+      book = book;
       ends = λ told ready.
           subst (λ disk. EndsOnReady g disk (record { book = last.book; disk = last.journal.writer.disk; stop = stop })) ended.same.start
           (ends_on (told_at told) (ready_at ready));

@@ -60,6 +60,7 @@ module _ (one_log : (image : FileList) (log other : Log) → Spells image log �
         let next : next_lsn log ≡ length before + 1 = ap next_lsn is ∙ next_from_lowest before lawful in (
           n,
           (let fits : next_lsn log ≤ n + 1 = omega (arith, next, least) in fits),
+          (let fits : n ≤ next_lsn log = omega (arith, next, most, length-append before (opening_mark before ∷ [])) in fits),
           record {
             sound = (take n all, front_lawful n, spells);
             log = from_lowest 1 (take n all);

@@ -99,6 +99,7 @@ module _ {D : Type 0} (g : Ghosts D) (one_log : (image : FileList) (log other : 
         omega (arith, none, taken_first);
     clients = ap length made.noted ∙ sym (ap (λ (b : BookView). length b.session.scripts) made.book);
     one = ap (λ (b : BookView). length b.session.scripts) made.book;
+    opening = opening_is ∙ sym made.durable;
     acked = subst (λ (b : BookView). AllByRecursion (λ (a : Ack). a.lsn ≤ s.journal.writer.synced) b.acks) (sym made.book) tt;
     store = on_store;
   }

@@ -197,10 +197,10 @@ module _ {D : Type 0} (g : Ghosts D) (old : Store D) (c : ℕ) (before after : O
       count true owed = let one : length asked ≡ 1 = ap length (asked_is true owed) in omega (arith, one)
       count false idle = let none : length asked ≡ 0 = ap length (asked_is false idle) in omega (arith, none)
 
-  further : (new : Store D) → SameStart g old new → new.book.session ≡ mid.book.session → GoesFurther g old new
-  further new same session = record { same = same; more = event ∷ []; session = session ∙ done.history.session }
+  further : (new : Store D) → SameStart g old new → new.book.session ≡ mid.book.session → GoesFurther g c old new
+  further new same session = record { same = same; more = event ∷ []; own = (own, tt); few = omega arith; session = session ∙ done.history.session }
 
-  pub stopped_further : (new : Store D) → SameStart g old new → new.book ≡ mid.book → GoesFurther g old new
+  pub stopped_further : (new : Store D) → SameStart g old new → new.book ≡ mid.book → GoesFurther g c old new
   stopped_further new same book = further new same (ap (λ (b : BookView). b.session) book)
 
   -- ---- once it is
@@ -220,7 +220,7 @@ module _ {D : Type 0} (g : Ghosts D) (old : Store D) (c : ℕ) (before after : O
     done_settled settled =
         ap (λ (b : BookView). acks_owed b.session) book_is ∙ owed_now settled ∙ sym (ap (λ (b : BookView). b.acks) book_is)
 
-    pub done_further : SameStart g old new → GoesFurther g old new
+    pub done_further : SameStart g old new → GoesFurther g c old new
     done_further same = further new same (ap (λ (b : BookView). b.session) book_is)
 
     pub done_answers : IsClientOf old.book c → StoreAnswers g old c (call.Done place) new

@@ -33,13 +33,15 @@ use Rattle.frs_book.specs.declared.step.Step.{Step}
 use Rattle.frs_book.specs.declared.step.Step.TheVariants as step
 use Rattle.frs_book.proofs.EachStored.{each_to, each_to_more}
 use Rattle.frs_store.specs.declared.stop.Stop.{Stop}
+use Rattle.frs_store.specs.declared.stop.Stop.TheVariants as stop
 use Rattle.frs_store.specs.Session.{is_no_room, faults_of, HasStopCause}
 use Rattle.std.specs.FinMap.{entries}
 use Rattle.frs_types.specs.Records.{from_lowest}
 use Rattle.frs_segment.specs.Segments.{Spells}
 use Rattle.frs_store.specs.Stops.{StopHasCause, stop_of_write}
 
-acked_later : (low high : ℕ) → low ≤ high → (acks : List Ack) → AllByRecursion (λ (a : Ack). a.lsn ≤ low) acks → AllByRecursion (λ (a : Ack). a.lsn ≤ high) acks
+-- what was acknowledged as durable stays so
+pub acked_later : (low high : ℕ) → low ≤ high → (acks : List Ack) → AllByRecursion (λ (a : Ack). a.lsn ≤ low) acks → AllByRecursion (λ (a : Ack). a.lsn ≤ high) acks
 acked_later low high le = each_to (λ (a : Ack). a.lsn ≤ low) (λ (a : Ack). a.lsn ≤ high) (λ a was. omega (arith, le, was))
 
 -- a front isn't longer than the whole
@@ -54,6 +56,7 @@ module _ {D : Type 0} (g : Ghosts D) (s : Store D) (is : IsOfSession g s) where
     taken = is.taken;
     clients = is.clients;
     one = is.one;
+    opening = is.opening;
     acked = is.acked;
     store = λ told ready. let on = is.store told ready in record {
       before = on.before;
@@ -75,6 +78,7 @@ module _ {D : Type 0} (g : Ghosts D) (s : Store D) (is : IsOfSession g s) where
         omega (arith, firsts, front_length taker.taken s.book.drawer.drawn prefix);
     clients = ap length same.noted ∙ is.clients;
     one = is.one;
+    opening = is.opening;
     acked = acked_later s.journal.writer.synced w.synced rises s.book.acks is.acked;
     store = λ told ready. let on = is.store told ready in record {
       before = on.before;
@@ -104,15 +108,27 @@ more_to_write j drawer lsn counted below drawn first known = by j.writer.kept re
 -- ---- why it stopped
 
 pub write_stops : {D : Type 0} (g : Ghosts D) (old new : WriterView D) (next : ℕ) (fault : WriteFault) → HasWriteCause {D = D} {X = ℕ} g old new (Err fault)
-    → old.ended ≡ None → StopHasCause (g.faults old.disk) (g.faults new.disk) next (number_of_newest new.segments) (stop_of_write fault)
+    → old.ended ≡ None → StopHasCause (g.faults old.disk) (g.faults new.disk) next new (stop_of_write fault)
 write_stops g old new next Disk cause fine = cause.0
 write_stops g old new next (Broken at_opening now) cause fine = absurd (none_some (sym fine ∙ cause.3))
   where
     none_some : {f : Fault} → None ≡ Some f → ⊥
     none_some is = absurd cc
-write_stops g old new next (NumberLimit number) cause fine =
-    (ap (λ (w : WriterView _). g.faults w.disk) cause.4, inr (ap (λ (w : WriterView _). number_of_newest w.segments + 1) cause.4 ∙ cause.1 ∙ cause.0))
+write_stops g old new next (NumberLimit number) cause fine = (
+  ap (λ (w : WriterView _). g.faults w.disk) cause.4,
+  inr (
+    ap (λ (w : WriterView _). number_of_newest w.segments + 1) cause.4 ∙ cause.1 ∙ cause.0,
+    ap (λ (w : WriterView _). w.ended) cause.4 ∙ fine,
+  ),
+)
 write_stops g old new next Memory cause fine = cause.0
+
+-- what is known of the ring doesn't matter
+stops_by_taker : {D : Type 0} (before now next : ℕ) (w : WriterView D) (taker : TakerView) (why : Stop) → StopHasCause before now next w why
+    → StopHasCause before now next (record w { taker = taker }) why
+stops_by_taker before now next w taker stop.Disk cause = cause
+stops_by_taker before now next w taker stop.Limit cause = cause
+stops_by_taker before now next w taker stop.Memory cause = cause
 
 -- ---- the same start
 
@@ -284,19 +300,21 @@ module _ {D : Type 0} (g : Ghosts D) (s : Store D) (is : IsOfSession g s) (writt
 
   pub stopped : (before : ℕ) (fault : WriteFault) → HasWriteCause {D = D} {X = ℕ} g s.journal.writer written.writer (Err fault)
       → s.journal.writer.ended ≡ None → g.faults s.journal.writer.disk ≡ before
-      → StopHasCause before (g.faults met.writer.disk) (next_drawn book.drawer) (number_of_newest met.writer.segments) (stop_of_write fault)
+      → StopHasCause before (g.faults met.writer.disk) (next_drawn book.drawer) met.writer (stop_of_write fault)
   stopped before fault cause fine was =
-      subst (λ (j : JournalView D). StopHasCause before (g.faults j.writer.disk) (next_drawn book.drawer) (number_of_newest j.writer.segments) (stop_of_write fault)) (sym journal_met)
-      (subst (λ n. StopHasCause n (g.faults written.writer.disk) (next_drawn book.drawer) (number_of_newest written.writer.segments) (stop_of_write fault)) was
-      (write_stops g s.journal.writer written.writer (next_drawn book.drawer) fault cause fine))
+      subst (λ (j : JournalView D). StopHasCause before (g.faults j.writer.disk) (next_drawn book.drawer) j.writer (stop_of_write fault)) (sym journal_met)
+      (stops_by_taker before (g.faults written.writer.disk) (next_drawn book.drawer) written.writer
+      (record written.writer.taker { known = met.writer.taker.known }) (stop_of_write fault)
+      (subst (λ n. StopHasCause n (g.faults written.writer.disk) (next_drawn book.drawer) written.writer (stop_of_write fault)) was
+      (write_stops g s.journal.writer written.writer (next_drawn book.drawer) fault cause fine)))
 
 -- what the caller is told of it
 pub stop_told : {D T : Type 0} (g : Ghosts D) (old new : Store D) (fault : WriteFault) (r : Result T Stop) → IsErrAnd r (λ stop. stop ≡ stop_of_write fault)
-    → StopHasCause (faults_of g old) (faults_of g new) (next_drawn new.book.drawer) (number_of_newest new.journal.writer.segments) (stop_of_write fault)
+    → StopHasCause (faults_of g old) (faults_of g new) (next_drawn new.book.drawer) new.journal.writer (stop_of_write fault)
     → HasStopCause g old new r
 stop_told g old new fault (Ok value) none cause = absurd none
 stop_told g old new fault (Err stop) is cause =
-    subst (λ (x : Stop). StopHasCause (faults_of g old) (faults_of g new) (next_drawn new.book.drawer) (number_of_newest new.journal.writer.segments) x) (sym is) cause
+    subst (λ (x : Stop). StopHasCause (faults_of g old) (faults_of g new) (next_drawn new.book.drawer) new.journal.writer x) (sym is) cause
 
 -- ---- all is durable
 
@@ -434,6 +452,7 @@ module _ {D : Type 0} (g : Ghosts D) (s : Store D) (is : IsOfSession g s) where
     taken = omega (arith, is.taken, later.ring.1, later.drawn);
     clients = is.clients ∙ sym (ap length later.scripts);
     one = ap length later.scripts ∙ is.one;
+    opening = later.opening ∙ is.opening;
     acked = subst (AllByRecursion (λ (a : Ack). a.lsn ≤ s.journal.writer.synced)) (sym later.acks) is.acked;
     store = λ told ready. let on = is.store told ready in record {
       before = on.before;
@@ -456,6 +475,7 @@ module _ {D : Type 0} (g : Ghosts D) (s : Store D) (is : IsOfSession g s) where
     taken = is.taken;
     clients = count ∙ is.clients;
     one = is.one;
+    opening = is.opening;
     acked = each_to_more (λ (b : Ack). b.lsn ≤ s.journal.writer.synced) (λ (b : Ack). b.lsn ≤ s.journal.writer.synced) (λ b was. was) s.book.acks a is.acked durable;
     store = λ told ready. let on = is.store told ready in record {
       before = on.before;
@@ -475,6 +495,7 @@ module _ {D : Type 0} (g : Ghosts D) (s : Store D) (is : IsOfSession g s) where
     taken = omega (arith, is.taken, ap length taken, first, ap length drawn, drawn_first);
     clients = is.clients;
     one = is.one;
+    opening = is.opening;
     acked = is.acked;
     store = λ told ready. let on = is.store told ready in record {
       before = on.before;

@@ -11,7 +11,6 @@ use Rattle.frs_frame.specs.Spelling.{spelling}
 use Rattle.frs_segment.specs.Segments.{Spells}
 use Rattle.frs_recovery.specs.Sound.{IsReady}
 use Rattle.frs_slots.specs.Views.{SlotView, AreOfOneRing, next_drawn, next_taken}
-use Rattle.frs_writer.specs.Places.{number_of_newest}
 use Rattle.frs_history.specs.declared.event.Ack.{Ack}
 use Rattle.frs_history.specs.declared.event.Event.{Event}
 use Rattle.frs_history.specs.Machine.{client}
@@ -25,7 +24,7 @@ use Rattle.frs_store.specs.declared.call.Call.TheVariants as call
 use Rattle.frs_store.specs.declared.stop.Stop.{Stop}
 use Rattle.frs_store.specs.declared.store.Store.{Store}
 use Rattle.frs_store.specs.SessionEnd.{BeginsOn, opening_mark}
-use Rattle.frs_store.specs.Stops.{StopHasCause}
+use Rattle.frs_store.specs.Stops.{StopHasCause, StopMet}
 
 -- the answer that the ring is full
 abbrev pub is_no_room : Step → Bool
@@ -42,12 +41,14 @@ pub record IsOnStore {D : Type 0} (g : Ghosts D) (s : Store D) : Type 0 where
   pub durable : s.journal.durable ≡ length before
   pub mark : s.book.before ≡ spelling (opening_mark before) ∷ []
 
--- The journal and the book are of one session of one client, and what is acknowledged is durable.
+-- The journal and the book are of one session of one client, whose opening mark stands behind what was durable at the
+-- start, and what is acknowledged is durable.
 pub record IsOfSession {D : Type 0} (g : Ghosts D) (s : Store D) : Type 0 where
   pub one_ring : AreOfOneRing s.book.drawer s.journal.writer.taker
   pub taken : next_taken s.journal.writer.taker ≤ next_drawn s.book.drawer
   pub clients : length s.journal.writer.noted ≡ length s.book.session.scripts
   pub one : length s.book.session.scripts ≡ 1
+  pub opening : s.book.session.opening ≡ s.journal.durable + 1
   pub acked : AllByRecursion (λ (a : Ack). a.lsn ≤ s.journal.writer.synced) s.book.acks
   pub store : IsTrue (g.tells s.journal.start) → IsReady g s.journal.start → IsOnStore g s
 
@@ -91,17 +92,19 @@ pub record SameStart {D : Type 0} (g : Ghosts D) (old new : Store D) : Type 0 wh
   pub opened : new.journal.writer.opened ≡ old.journal.writer.opened
   pub frame : GoesOn g old.journal.writer.disk new.journal.writer.disk
 
--- and the session has some events more
-pub record GoesFurther {D : Type 0} (g : Ghosts D) (old new : Store D) : Type 0 where
+-- and the session has at most one event more, which is the client's
+pub record GoesFurther {D : Type 0} (g : Ghosts D) (c : ℕ) (old new : Store D) : Type 0 where
   pub same : SameStart g old new
   pub more : List Event
+  pub own : AllByRecursion (λ (e : Event). e.client ≡ c) more
+  pub few : length more ≤ 1
   pub session : new.book.session ≡ record old.book.session { events = old.book.session.events ++ more }
 
 -- A call that was stopped has met the stop's cause; else the disk's count is as it was.
 abbrev pub HasStopCause : {D T : Type 0} → Ghosts D → Store D → Store D → Result T Stop → Type 0
 HasStopCause g old new (Ok value) = faults_of g new ≡ faults_of g old
-HasStopCause g old new (Err stop) = StopHasCause (faults_of g old) (faults_of g new) (next_drawn new.book.drawer)
-    (number_of_newest new.journal.writer.segments) stop
+HasStopCause g old new (Err stop) =
+    StopHasCause (faults_of g old) (faults_of g new) (next_drawn new.book.drawer) new.journal.writer stop
 
 -- ---- the steps of a store
 
@@ -168,12 +171,15 @@ pub record IsDoneFor {D : Type 0} (g : Ghosts D) (old new : SessionView D) (c pl
   pub fewer : steps_left new.store.book c < steps_left old.store.book c
   pub faults : faults_of g new.store ≡ faults_of g old.store
 
--- The stop that was kept is answered again, and nothing changes; or it is met in this call, and has its cause.
+-- The stop that was kept is answered again, and nothing changes; or it is met in this call, and has its cause, in the
+-- writer and in what the session drew.
 pub record IsStopped {D : Type 0} (g : Ghosts D) (old new : SessionView D) (stop : Stop) : Type 0 where
   pub kept : new.stop ≡ Some stop
   pub again : (o : Stop) → old.stop ≡ Some o → new ≡ old
-  pub met : old.stop ≡ None → StopHasCause (faults_of g old.store) (faults_of g new.store)
-      (next_drawn new.store.book.drawer) (number_of_newest new.store.journal.writer.segments) stop
+  pub cause : old.stop ≡ None → StopHasCause (faults_of g old.store) (faults_of g new.store)
+      (next_drawn new.store.book.drawer) new.store.journal.writer stop
+  pub met : old.stop ≡ None → StopMet (faults_of g old.store) (faults_of g new.store) new.store.journal.number
+      new.store.book.session stop
 
 abbrev pub CallAnswers : {D : Type 0} → Ghosts D → SessionView D → ℕ → Call → SessionView D → Type 0
 CallAnswers g old c (call.Done place) new = IsDoneFor g old new c place

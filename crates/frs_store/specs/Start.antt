@@ -35,7 +35,7 @@ abbrev pub greatest_of : FileList → ℕ
 greatest_of image = unwrap_or (last_or None (numbers_of image)) 0
 
 -- A session of this script, in which nothing has happened. It goes on behind the last LSN that the files spelled, in
--- the file behind the greatest, and its opening mark is durable.
+-- the file behind the greatest, and its opening mark is durable. Its number and the mark's LSN are below the limit.
 pub record IsOpened {D : Type 0} (g : Ghosts D) (disk : D) (script : List Line) (s : Store D) : Type 0 where
   pub start : s.journal.start ≡ disk
   pub scripts : s.book.session.scripts ≡ script ∷ []
@@ -44,6 +44,7 @@ pub record IsOpened {D : Type 0} (g : Ghosts D) (disk : D) (script : List Line) 
   pub closing : s.book.session.closing ≡ None
   pub acks : s.book.acks ≡ []
   pub opening : s.book.session.opening ≡ s.journal.durable + 1
+  pub left : (s.journal.number < NUMBER_LIMIT) × (s.book.session.opening < NUMBER_LIMIT)
   pub written : s.journal.writer.synced ≡ s.book.session.opening
   pub durable : IsTrue (g.tells disk) → (log : Log) × Spells (entries (g.reads disk)) log
       × (next_lsn log ≡ s.journal.durable + 1)
@@ -61,15 +62,22 @@ abbrev pub IsFullOnDisk : {D : Type 0} → Ghosts D → D → Type 0
 IsFullOnDisk g disk = IsTrue (g.tells disk) → (log : Log) × Spells (entries (g.reads disk)) log
     × (next_lsn log ≡ NUMBER_LIMIT)
 
+-- The number behind the greatest of these files, which spell a log behind which an LSN is left.
+pub record IsNextNumber (image : FileList) (number : ℕ) : Type 0 where
+  pub log : Log
+  pub spelled : Spells image log
+  pub left : next_lsn log < NUMBER_LIMIT
+  pub behind : number ≡ greatest_of image + 1
+
 -- The disk is told only where its count has risen. What the files spell is refused, or no LSN is left, or no number for
--- another segment, only where it is so, and the disk was then only read.
+-- another segment, only where it is so, and the disk was then only read. They are judged in this order.
 abbrev pub StartHasCause : {D : Type 0} → Ghosts D → D → D → StartFault → Type 0
 StartHasCause g old new (start.Recover fault) = (g.faults new ≡ g.faults old) × OnlyReads g old new × IsOfFiles fault
     × (IsTrue (g.tells old) → IsWrongFirst (entries (g.reads old)) fault)
 StartHasCause g old new (start.LogFull next) = (g.faults new ≡ g.faults old) × OnlyReads g old new
     × (next ≡ NUMBER_LIMIT) × IsFullOnDisk g old
 StartHasCause g old new (start.NumberLimit number) = (g.faults new ≡ g.faults old) × OnlyReads g old new
-    × (number ≡ NUMBER_LIMIT) × (IsTrue (g.tells old) → number ≡ greatest_of (entries (g.reads old)) + 1)
+    × (number ≡ NUMBER_LIMIT) × (IsTrue (g.tells old) → IsNextNumber (entries (g.reads old)) number)
 StartHasCause g old new start.Disk = Rose (g.faults old) (g.faults new)
 StartHasCause g old new start.Memory = g.faults new ≡ g.faults old
 
@@ -78,9 +86,11 @@ pub record IsUnopened {D : Type 0} (g : Ghosts D) (disk : D) (e : Unopened D) : 
   pub frame : GoesOn g disk e.disk
   pub cause : StartHasCause g disk e.disk e.fault
 
--- The image recovers to what survives of the log, and the last LSN is that of the log, or a later one.
+-- The image recovers to what survives of the log, and the last LSN is that of the log, or that of an opening mark behind
+-- it.
 abbrev pub RecoversSame : Log → Image → Type 0
-RecoversSame log c = (n : ℕ) × (next_lsn log ≤ n + 1) × RecoversTo (entries c) n (maps_of (survivors log))
+RecoversSame log c = (n : ℕ) × (next_lsn log ≤ n + 1) × (n ≤ next_lsn log)
+    × RecoversTo (entries c) n (maps_of (survivors log))
 
 -- ---- its parts
 

@@ -65,7 +65,7 @@ impl<D: Disk> Session<D> {
     pub fn call(&mut self, alloc: Global, client: u32) -> Call
         requires client { IsClientOf self.old.store.book client }
         ensures answers { CallAnswers D.Disk self.old client result self.new }
-        ensures further { GoesFurther D.Disk self.old.store self.new.store }
+        ensures further { GoesFurther D.Disk client self.old.store self.new.store }
     {
         if let Some(stop) = self.stop {
             return Call::Stopped { stop };
@@ -73,6 +73,9 @@ impl<D: Disk> Session<D> {
         match self.store.call(alloc, client) {
             Ok(call) => call,
             Err(stop) => {
+                // A limit shows in what the session drew.
+                let _ = self.store.journal.synced();
+                let _ = self.store.book.history();
                 self.stop = Some(stop);
                 Call::Stopped { stop }
             }
@@ -110,6 +113,12 @@ fn close_store<D: Disk>(alloc: Global, store: &mut Store<D>, stop: Option<Stop>)
     asked_by_events();
     match stop {
         Some(stop) => Some(stop),
-        None => store.close(alloc).err(),
+        None => {
+            let stop = store.close(alloc).err();
+            // A limit shows in what the session drew.
+            let _ = store.journal.synced();
+            let _ = store.book.history();
+            stop
+        }
     }
 }

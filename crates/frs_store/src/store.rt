@@ -195,7 +195,7 @@ impl<D: Disk> Store<D> {
         ensures settled { OnOk result (IsSettled self.new.book) }
         ensures owed { MissesAtMostOne (acks_owed self.new.book.session) self.new.book.acks }
         ensures answered { IfOk result (λ call. StoreAnswers D.Disk self.old client call self.new) }
-        ensures further { GoesFurther D.Disk self.old self.new }
+        ensures further { GoesFurther D.Disk client self.old self.new }
         ensures cause { HasStopCause D.Disk self.old self.new result }
     {
         // What an event asks for is owed and due, the client is hindered by nobody, and the book is one.

@@ -13,7 +13,7 @@ returns-in-None g c =
     let d = g.D.Disk in
     let s : SessionView _ = record { store = c.args.store.now; stop = c.args.stop } in
     let closed = c.close.ensures in
-    subst (λ stop. IsStoreAtEnd d s c.close.new.self stop) (sym c.err.ensures.value)
+    subst (λ stop. IsStoreAtEnd d s c.close.new.self stop) (sym c.err-stop.ensures.value)
     (closed_at_end d s c.requires.under_way c.close.new.self
     (c.asked_by_events.ensures.closed c.args.store.now.book.session c.requires.under_way.«open») c.in-None.is
-    closed.session closed.same closed.state closed.acks c.close.result closed.going closed.durable closed.closed closed.refused closed.cause)
+    closed.session closed.same closed.state closed.acks c.synced.ensures.journal c.history.ensures.book c.close.result closed.going closed.durable closed.closed closed.refused closed.cause)

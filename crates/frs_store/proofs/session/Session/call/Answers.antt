@@ -9,5 +9,5 @@ returns-in-Some g c =
     let s : SessionView _ = record { store = c.self.inside.store; stop = c.self.inside.stop } in
     record {
       answers = subst (λ (v : SessionView _). IsStopped d v v c.in-Some.stop) c.self.view_is (stopped_before d s c.self.invariant c.in-Some.stop c.in-Some.is);
-      further = subst (λ (v : SessionView _). GoesFurther d v.store v.store) c.self.view_is (no_further d s c.self.invariant);
+      further = subst (λ (v : SessionView _). GoesFurther d c.args.client v.store v.store) c.self.view_is (no_further d s c.self.invariant c.args.client);
     }
