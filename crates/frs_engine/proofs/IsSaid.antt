@@ -156,7 +156,7 @@ found_not_six (finding.Maps entries) is = omega (arith, is)
 found_not_six (finding.Numbers recovered) is = omega (arith, is)
 found_not_six (finding.Refused fault) is = not_six fault is
 
-refusal_not_zero : (fault : RecoverFault) → refusal_status fault ≡ 0 → ⊥
+pub refusal_not_zero : (fault : RecoverFault) → refusal_status fault ≡ 0 → ⊥
 refusal_not_zero (BadHeader segment offset) is = omega (arith, is)
 refusal_not_zero (BadChunk segment offset) is = omega (arith, is)
 refusal_not_zero (Gap expected found) is = omega (arith, is)

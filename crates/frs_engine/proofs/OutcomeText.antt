@@ -1,5 +1,5 @@
--- What a run prints is its transcript with a last line, or that line alone, and what a sink took of it.
-use Rattle.std.proofs.Common.{◌≡◌, ◌∙◌, inl, inr, ap, sym, refl, subst, ℕ, true, false, Bool, cond, List, [], ◌∷◌, ◌++◌, append_assoc, arith, IsTrue}
+-- What a run prints is its transcript with a last line, and what a sink took of it.
+use Rattle.std.proofs.Common.{◌≡◌, ◌∙◌, inl, inr, ap, sym, refl, subst, ℕ, List, ◌++◌, Option, append_assoc, arith, IsTrue}
 use Rattle.std.specs.Prelude.{flat_map, Result, Ok, Err, OnOk}
 use Rattle.frs_history.specs.declared.command.Line.{Line}
 use Rattle.frs_history.specs.declared.event.Ack.{Ack}
@@ -9,19 +9,17 @@ use Rattle.frs_disk.specs.declared.disk.Fault.TheVariants as faults
 use Rattle.frs_disk.specs.declared.outside.Sink.{Ghosts}
 use Rattle.frs_disk.specs.Disk.{HasCause, Rose}
 use Rattle.frs_disk.specs.Outside.{AddsPartOf}
-use Rattle.frs_text.specs.Text.{Text, event_line, ack_line, history_text, transcript}
+use Rattle.frs_book.specs.Books.{BookView}
+use Rattle.frs_text.specs.Text.{Text, event_line, ack_line, history_text}
 use Rattle.frs_engine.specs.declared.ending.Ending.{Ending}
 use Rattle.frs_engine.specs.declared.status.Status.{Status}
 use Rattle.frs_engine.specs.declared.status.Status.TheVariants as status
-use Rattle.frs_engine.specs.Endings.{last_line_of, has_transcript, text_of}
+use Rattle.frs_engine.specs.Endings.{last_line_of, scripts_of, events_of, acks_of, text_of}
 use Rattle.frs_engine.specs.Reports.{Prints, PrintsAll, Answers, IsReported}
 use Rattle.frs_engine.specs.Statuses.{code_of, status_unprinted, status_after}
 
-pub alone_text : (e : Ending) (script : List Line) (events : List Event) (acks : List Ack) → has_transcript e ≡ false → text_of e script events acks ≡ last_line_of e
-alone_text e script events acks alone = ap (λ (b : Bool). cond b (transcript (script ∷ []) events acks (last_line_of e)) (last_line_of e)) alone
-
-pub run_text : (e : Ending) (script : List Line) (events : List Event) (acks : List Ack) → has_transcript e ≡ true → text_of e script events acks ≡ history_text (script ∷ []) events acks ++ last_line_of e
-run_text e script events acks more = ap (λ (b : Bool). cond b (transcript (script ∷ []) events acks (last_line_of e)) (last_line_of e)) more
+pub run_text : (e : Ending) (book : Option BookView) → text_of e book ≡ history_text (scripts_of book) (events_of book) (acks_of book) ++ last_line_of e
+run_text e book = refl
 
 -- ---- what a sink took
 
@@ -54,12 +52,12 @@ pub both_print : (first last whole before middle after : Text) → whole ≡ fir
 both_print first last whole before middle after is all then =
     then ∙ ap (λ (t : Text). t ++ last) all ∙ append_assoc before first last ∙ ap (λ (t : Text). before ++ t) (sym is)
 
-pub same_history : (scripts : List (List Line)) (ev events : List Event) (ac acks : List Ack) (script : List Line) → scripts ≡ script ∷ [] → ev ≡ events → ac ≡ acks
-    → history_text scripts ev ac ≡ history_text (script ∷ []) events acks
-same_history scripts ev events ac acks script is_script is_events is_acks =
+pub same_history : (lines scripts : List (List Line)) (ev events : List Event) (ac acks : List Ack) → lines ≡ scripts → ev ≡ events → ac ≡ acks
+    → history_text lines ev ac ≡ history_text scripts events acks
+same_history lines scripts ev events ac acks is_script is_events is_acks =
     ap (λ (s : List (List Line)). flat_map (event_line s) ev ++ flat_map ack_line ac) is_script
-    ∙ ap (λ (es : List Event). flat_map (event_line (script ∷ [])) es ++ flat_map ack_line ac) is_events
-    ∙ ap (λ (a : List Ack). flat_map (event_line (script ∷ [])) events ++ flat_map ack_line a) is_acks
+    ∙ ap (λ (es : List Event). flat_map (event_line scripts) es ++ flat_map ack_line ac) is_events
+    ∙ ap (λ (a : List Ack). flat_map (event_line scripts) events ++ flat_map ack_line a) is_acks
 
 -- ---- the status that is answered
 

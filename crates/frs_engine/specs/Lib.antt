@@ -1,10 +1,9 @@
 pub mod Causes
 pub mod Endings
-pub mod Entries
-pub mod Journal
 pub mod PlainJobs
 pub mod Promise
 pub mod Reports
 pub mod Runs
-pub mod Session
+pub mod RunsInOrder
+pub mod Sessions
 pub mod Statuses

@@ -29,10 +29,10 @@ status_after decided (Ok v) = decided
 status_after decided (Err faults.Failed) = status_unprinted decided
 status_after decided (Err faults.Memory) = status.MemoryStop
 
--- The statuses of a run: all was done; a line of a script is refused; the disk failed; a file wasn't read; the sink
--- failed; a limit was met; memory ran out; not yet.
+-- The statuses of a run: all was done; a line of a script is refused; the disk failed; the store is refused; a file
+-- wasn't read; the sink failed; a limit was met; memory ran out; not yet.
 abbrev pub is_status : ℕ → Bool
-is_status n = (n == 0) || (n == 2) || (n == 3) || (n == 5) || (n == 6) || (n == 8) || (n == 9) || (n == 10)
+is_status n = (n == 0) || (n == 2) || (n == 3) || (n == 4) || (n == 5) || (n == 6) || (n == 8) || (n == 9) || (n == 10)
 
 -- Those of a job: all was done; the disk failed; a refusal; the sink failed; a limit; memory ran out; not yet.
 abbrev pub is_plain_status : ℕ → Bool

@@ -1,8 +1,11 @@
 //! How a run ends, before anything is printed.
 ghost use Rattle.std.specs.Prelude.{◌≡◌};
-ghost use Rattle.frs_engine.specs.Endings.{ending_status, last_of, has_transcript};
+ghost use Rattle.frs_engine.specs.Endings.{ending_status, last_of, ending_of_stop, ending_of_start};
 
+use crate::finding::{line_of, status_of};
 use crate::status::Status;
+use frs_recovery::RecoverFault;
+use frs_store::{StartFault, Stop};
 use frs_text::LastLine;
 
 /// How a run ended, before anything was printed.
@@ -34,6 +37,13 @@ pub(crate) enum Ending {
         /// How many.
         clients: u64,
     },
+    /// The files of the store spell no log, or an LSN in them is too large.
+    Refused {
+        /// Why.
+        fault: RecoverFault,
+    },
+    /// An LSN or the number of a segment would be 2^62.
+    Limit,
     /// There was no memory.
     Memory,
     /// It can't be run yet.
@@ -50,7 +60,8 @@ impl Ending {
             Ending::Bad { .. } | Ending::Long { .. } => Status::WrongLine,
             Ending::Disk => Status::DiskStop,
             Ending::Unread => Status::UnreadFile,
-            Ending::Past { .. } | Ending::Crowded { .. } => Status::Limit,
+            Ending::Past { .. } | Ending::Crowded { .. } | Ending::Limit => Status::Limit,
+            Ending::Refused { fault } => status_of(fault),
             Ending::Memory => Status::MemoryStop,
             Ending::Later => Status::Later,
         }
@@ -68,15 +79,38 @@ impl Ending {
             Ending::Unread => LastLine::UnreadFile { file: 1 },
             Ending::Past { line } => LastLine::ScriptLineLimit { script: 1, line },
             Ending::Crowded { clients } => LastLine::ClientLimit { clients },
+            Ending::Refused { fault } => line_of(fault),
+            Ending::Limit => LastLine::LimitStop,
             Ending::Memory => LastLine::MemoryStop,
             Ending::Later => LastLine::Later,
         }
     }
+}
 
-    /// Whether a transcript stands before the last line.
-    pub(crate) fn has_transcript(self) -> bool
-        ensures { result ≡ has_transcript self }
-    {
-        matches!(self, Ending::Closed | Ending::Disk | Ending::Memory)
+// How a run ends that was opened: all was done, unless something has stopped it.
+impl From<Option<Stop>> for Ending {
+    ghost from_gives = { λ stop ending. ending ≡ ending_of_stop stop };
+
+    fn from(stop: Option<Stop>) -> Self {
+        match stop {
+            None => Ending::Closed,
+            Some(Stop::Disk) => Ending::Disk,
+            Some(Stop::Limit) => Ending::Limit,
+            Some(Stop::Memory) => Ending::Memory,
+        }
+    }
+}
+
+// How a run ends that wasn't opened.
+impl From<StartFault> for Ending {
+    ghost from_gives = { λ fault ending. ending ≡ ending_of_start fault };
+
+    fn from(fault: StartFault) -> Self {
+        match fault {
+            StartFault::Recover { fault } => Ending::Refused { fault },
+            StartFault::LogFull { .. } | StartFault::NumberLimit { .. } => Ending::Limit,
+            StartFault::Disk => Ending::Disk,
+            StartFault::Memory => Ending::Memory,
+        }
     }
 }

@@ -64,8 +64,8 @@ impl Finding {
     }
 }
 
-// The status by which a refusal is told.
-fn status_of(fault: RecoverFault) -> Status
+/// The status by which a refusal is told.
+pub(crate) fn status_of(fault: RecoverFault) -> Status
     ensures { result ≡ fault_status fault }
 {
     match fault {

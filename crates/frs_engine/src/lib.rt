@@ -2,26 +2,31 @@
 #![tactic(auto)]
 
 mod ending;
-mod entries;
 mod finding;
-mod journal;
 mod outcome;
 mod plain_job;
 mod plan_script;
 mod report;
 mod run;
-mod session;
+mod run_laws;
 mod status;
 
 pub use frs_text::{PlainPlan, RunPlan};
 pub use frs_types::{NoTurn, Turn};
 pub use plain_job::{Left, frs_plain};
 pub use run::{Ended, frs_run};
+pub use run_laws::maps_after_runs;
 pub use status::Status;
 
 #[cfg(test)]
 mod crash_tests;
 #[cfg(test)]
+mod image_reader;
+#[cfg(test)]
 mod plain_job_tests;
+#[cfg(test)]
+mod reopen_tests;
+#[cfg(test)]
+mod script_tests;
 #[cfg(test)]
 mod tests;

@@ -11,7 +11,7 @@ use std::alloc::Global;
 use std::test::Fail;
 
 // Segment 1 with a mark, a put of `v` under `k` in the map `m`, and a mark, each in a chunk of its own.
-const SEGMENT: [u8; 156] = [
+pub(crate) const SEGMENT: [u8; 156] = [
     1, 0x46, 0x52, 0x53, 0x53, 1, 0, 0, 0, 0, 0, 0, 0, 1, 0, 0, 0, 0, 0, 0, 0, 1, // the header
     1, 0, 0, 0, 0x19, 0, 0, 0, 1, 0, 0, 0, 0, 0, 0, 0, 1, // a chunk with the opening mark
     7, 0, 0, 0, 0, 0, 0, 0, 0, 0, 0, 0, 0, 0, 0, 0, 1, 0, 0, 0, 0, 0, 0, 0, 0, //
@@ -24,12 +24,12 @@ const SEGMENT: [u8; 156] = [
 ];
 
 // A segment's header behind a closed gate, and the closed gate of its first chunk.
-const HALF_MADE: [u8; 23] = [
+pub(crate) const HALF_MADE: [u8; 23] = [
     0, 0x46, 0x52, 0x53, 0x53, 1, 0, 0, 0, 0, 0, 0, 0, 2, 0, 0, 0, 0, 0, 0, 0, 4, 0,
 ];
 
 // Segment 1 whose first LSN is 2^62 - 1, with a mark that carries this number as its lowest.
-const LAST_LSN: [u8; 65] = [
+pub(crate) const LAST_LSN: [u8; 65] = [
     1, 0x46, 0x52, 0x53, 0x53, 1, 0, 0, 0, 0, 0, 0, 0, 1, 0x3f, 255, 255, 255, 255, 255, 255, 255, //
     1, 0, 0, 0, 0x19, 0, 0, 0, 1, 0x3f, 255, 255, 255, 255, 255, 255, 255, //
     7, 0, 0, 0, 0, 0, 0, 0, 0, 0x3f, 255, 255, 255, 255, 255, 255, 255, 0, 0, 0, 0, 0, 0, 0, 0, //
@@ -37,7 +37,7 @@ const LAST_LSN: [u8; 65] = [
 ];
 
 // A segment's number and first LSN, behind an open gate.
-fn begun(alloc: Global, number: u8, first: u8) -> Result<Vec<u8>, NoMemory> {
+pub(crate) fn begun(alloc: Global, number: u8, first: u8) -> Result<Vec<u8>, NoMemory> {
     let mut bytes = Vec::from_slice(alloc, &[1, 0x46, 0x52, 0x53, 0x53, 1])?;
     bytes.extend_from_slice(&[0, 0, 0, 0, 0, 0, 0, number])?;
     bytes.extend_from_slice(&[0, 0, 0, 0, 0, 0, 0, first])?;
@@ -45,7 +45,7 @@ fn begun(alloc: Global, number: u8, first: u8) -> Result<Vec<u8>, NoMemory> {
 }
 
 // Adds a chunk with one mark.
-fn mark(bytes: &mut Vec<u8>, lsn: u8, lowest: u8) -> Result<(), NoMemory> {
+pub(crate) fn mark(bytes: &mut Vec<u8>, lsn: u8, lowest: u8) -> Result<(), NoMemory> {
     bytes.extend_from_slice(&[1, 0, 0, 0, 25, 0, 0, 0, 1, 0, 0, 0, 0, 0, 0, 0, lsn])?;
     bytes.extend_from_slice(&[7, 0, 0, 0, 0, 0, 0, 0, 0])?;
     bytes.extend_from_slice(&[0, 0, 0, 0, 0, 0, 0, lowest, 0, 0, 0, 0, 0, 0, 0, 0])?;
@@ -53,7 +53,13 @@ fn mark(bytes: &mut Vec<u8>, lsn: u8, lowest: u8) -> Result<(), NoMemory> {
 }
 
 // Adds a chunk with one put into the map `m`.
-fn put(bytes: &mut Vec<u8>, lsn: u8, lowest: u8, named: u8, word: [u8; 2]) -> Result<(), NoMemory> {
+pub(crate) fn put(
+    bytes: &mut Vec<u8>,
+    lsn: u8,
+    lowest: u8,
+    named: u8,
+    word: [u8; 2],
+) -> Result<(), NoMemory> {
     bytes.extend_from_slice(&[1, 0, 0, 0, 32, 0, 0, 0, 1, 0, 0, 0, 0, 0, 0, 0, lsn])?;
     bytes.extend_from_slice(&[1, 0, 0, 0, 0, 0, 0, 0, 0])?;
     bytes.extend_from_slice(&[0, 0, 0, 0, 0, 0, 0, lowest, 0, 0, 0, 0, 0, 0, 0, named])?;
@@ -62,7 +68,7 @@ fn put(bytes: &mut Vec<u8>, lsn: u8, lowest: u8, named: u8, word: [u8; 2]) -> Re
 }
 
 // A segment with a put between two marks, of a store whose lowest LSN is 2 once it has a put.
-fn session(
+pub(crate) fn session(
     alloc: Global,
     number: u8,
     first: u8,
@@ -78,7 +84,7 @@ fn session(
 }
 
 // The segment with one byte changed.
-fn changed(alloc: Global, at: usize, byte: u8) -> Result<Vec<u8>, NoMemory> {
+pub(crate) fn changed(alloc: Global, at: usize, byte: u8) -> Result<Vec<u8>, NoMemory> {
     let mut bytes = Vec::from_slice(alloc, &SEGMENT)?;
     if let Some(place) = bytes.get_mut(at) {
         *place = byte;

@@ -1,8 +1,7 @@
 //! Reads the script of a plan's one file.
 ghost use Rattle.std.specs.Prelude.{◌≡◌, ◌⊎◌, ◌<◌, ◌^◌, ℕ, List, Some, None, Ok, Err, length, IsTrue, IfOk, IfErr, MatchResult};
-ghost use Rattle.frs_engine.specs.Causes.{one_file, bytes_of_plan, ending_of_plan, SpellsScript, IsUnread};
+ghost use Rattle.frs_engine.specs.Causes.{one_file, bytes_of_plan, ending_of_plan, is_snapshot, asks_snapshot, SpellsScript, IsUnread};
 ghost use Rattle.frs_engine.specs.Endings.{script_in, ending_by};
-ghost use Rattle.frs_engine.specs.Promise.{is_put_or_get, has_puts_and_gets};
 
 use crate::ending::Ending;
 use frs_disk::{Fault, Files, Name};
@@ -50,20 +49,21 @@ fn parse(alloc: Global, bytes: &[u8]) -> Result<Script, Ending>
     }
 }
 
-fn is_put_or_get(line: &Line) -> bool
-    ensures { result ≡ is_put_or_get line.now.command }
+// Whether a line asks for a snapshot.
+fn is_snapshot(line: &Line) -> bool
+    ensures { result ≡ is_snapshot line.now }
 {
-    matches!(line.command, Command::Put { .. } | Command::Get { .. })
+    matches!(line.command, Command::Snapshot)
 }
 
-// Whether a script has puts and gets alone.
-fn has_puts_and_gets(script: &[Line]) -> bool
-    ensures { result ≡ has_puts_and_gets script.now }
+// Whether a script asks for one.
+fn asks_snapshot(script: &[Line]) -> bool
+    ensures { result ≡ asks_snapshot script.now }
 {
-    script.iter().all(|line| is_put_or_get(line))
+    script.iter().any(|line| is_snapshot(line))
 }
 
-/// The script of the plan's one file, where it has puts and gets alone, or how a run of the plan ends.
+/// The script of the plan's one file, where it asks for no snapshot, or how a run of the plan ends.
 pub(crate) fn read_script<F: Files>(
     alloc: Global,
     plan: &RunPlan,
@@ -71,8 +71,6 @@ pub(crate) fn read_script<F: Files>(
 ) -> Result<Script, Ending>
     ensures found { IfOk result (λ script. IsTrue (F.tells files.old)
         → SpellsScript (bytes_of_plan plan.now (F.file files.old)) script) }
-    ensures simple { IfOk result (λ script. IsTrue (has_puts_and_gets script)) }
-    ensures short { IfOk result (λ script. length script < 2 ^ 32) }
     ensures several { one_file plan.now ≡ None → result ≡ Err (ending_of_plan plan.now) }
     ensures why { IfErr result (IsUnread F.Files plan.now files.old files.new) }
     ensures told { F.tells files.new ≡ F.tells files.old }
@@ -87,7 +85,7 @@ pub(crate) fn read_script<F: Files>(
         Err(Fault::Memory) => return Err(Ending::Memory),
     };
     let script = parse(alloc, &bytes)?;
-    if !has_puts_and_gets(script.lines()) {
+    if asks_snapshot(script.lines()) {
         return Err(Ending::Later);
     }
     Ok(script)

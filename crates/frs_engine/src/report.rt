@@ -8,9 +8,8 @@ use crate::outcome::Outcome;
 use frs_disk::{Fault, Sink};
 use frs_text::{transcript, write_last_line};
 use std::alloc::Global;
-use std::slice;
 
-// The transcript with its last line, or that line alone.
+// The transcript, which is empty where nothing was run, and the last line.
 fn print<D, S: Sink>(alloc: Global, outcome: &Outcome<D>, sink: &mut S) -> Result<(), Fault>
     ensures all { OnOk result (IsTrue (S.tells sink.old)
         → PrintsAll (outcome_text outcome.now) (S.written sink.old) (S.written sink.new)) }
@@ -19,13 +18,14 @@ fn print<D, S: Sink>(alloc: Global, outcome: &Outcome<D>, sink: &mut S) -> Resul
     ensures told { S.tells sink.new ≡ S.tells sink.old }
     ensures cause { HasCause (S.faults sink.old) (S.faults sink.new) result }
 {
-    let last = outcome.ending.last_line();
-    if !outcome.ending.has_transcript() {
-        return write_last_line(alloc, last, sink);
-    }
-    let scripts = slice::from_ref(&outcome.script);
-    transcript(alloc, scripts, &outcome.events, &outcome.acks, sink)?;
-    write_last_line(alloc, last, sink)
+    transcript(
+        alloc,
+        outcome.scripts(),
+        outcome.events(),
+        outcome.acks(),
+        sink,
+    )?;
+    write_last_line(alloc, outcome.ending.last_line(), sink)
 }
 
 /// Prints the outcome, and gives the number of its status. It is that of its ending, unless the sink failed after a run

@@ -3,26 +3,15 @@ ghost use Rattle.std.specs.Prelude.{◌≡◌, ◌<◌, ◌≤◌, ◌^◌, IfOk
 ghost use Rattle.frs_engine.specs.Runs.{HasWork};
 ghost use Rattle.frs_disk.specs.Frames.{NoneRemovedAbove};
 
-use crate::{RunPlan, frs_run};
+use crate::image_reader::seen_in;
+use crate::plain_job_tests::SEGMENT;
+use crate::{PlainPlan, RunPlan, frs_plain, frs_run};
 use frs_disk::{Choice, FaultPlan, MemDisk, MemFiles, MemShelf, MemSink, Name};
 use frs_types::{NoMemory, NoTurn, Sequence};
 use std::alloc::Global;
 use std::sync::Wait;
 use std::test::Fail;
 use std::thread::Threads;
-
-// The segment that a run of a put and a get leaves, from offset 0 on.
-const SEGMENT: [u8; 156] = [
-    1, 0x46, 0x52, 0x53, 0x53, 1, 0, 0, 0, 0, 0, 0, 0, 1, 0, 0, 0, 0, 0, 0, 0, 1, // the header
-    1, 0, 0, 0, 0x19, 0, 0, 0, 1, 0, 0, 0, 0, 0, 0, 0, 1, // a chunk with the opening mark
-    7, 0, 0, 0, 0, 0, 0, 0, 0, 0, 0, 0, 0, 0, 0, 0, 1, 0, 0, 0, 0, 0, 0, 0, 0, //
-    1, 0, 0, 0, 0x20, 0, 0, 0, 1, 0, 0, 0, 0, 0, 0, 0, 2, // one with the put
-    1, 0, 0, 0, 0, 0, 0, 0, 0, 0, 0, 0, 0, 0, 0, 0, 2, 0, 0, 0, 0, 0, 0, 0, 0, 1, 0x6d, 1, 0x6b, 0,
-    1, 0x76, //
-    1, 0, 0, 0, 0x19, 0, 0, 0, 1, 0, 0, 0, 0, 0, 0, 0, 3, // one with the closing mark
-    7, 0, 0, 0, 0, 0, 0, 0, 0, 0, 0, 0, 0, 0, 0, 0, 2, 0, 0, 0, 0, 0, 0, 0, 0, //
-    0,
-];
 
 // The segment that a run of no command leaves.
 const EMPTY_RUN: [u8; 107] = [
@@ -60,13 +49,25 @@ const WRITTEN: [(usize, usize); 9] = [
     (113, 114),
 ];
 
+/// What a crash makes of what is pending, five times over.
+pub(crate) const CHOICES: [Choice; 5] = [
+    Choice::Keep,
+    Choice::Lose,
+    Choice::Fill(0),
+    Choice::Fill(1),
+    Choice::Fill(7),
+];
+
 // What a run left.
 #[derive(Drop)]
 pub(crate) struct Left {
-    status: u8,
+    pub(crate) status: u8,
     pub(crate) disk: MemDisk,
     sink: MemSink,
 }
+
+// What is printed of a store: its maps, and its numbers.
+pub(crate) type Texts = (&'static [u8], &'static [u8]);
 
 fn empty_disk(alloc: Global, plan: FaultPlan) -> Result<MemDisk, NoMemory>
     ensures { IfOk result (NoneRemovedAbove ⟦<MemDisk as frs_disk::Disk>⟧) }
@@ -126,7 +127,7 @@ fn run_plan<R: Threads + Wait + Sync>(
 }
 
 // Runs the script on this disk, with a sink of which these calls fail.
-fn run_on<R: Threads + Wait + Sync>(
+pub(crate) fn run_on<R: Threads + Wait + Sync>(
     rt: &R,
     alloc: Global,
     script: &[u8],
@@ -159,13 +160,79 @@ pub(crate) fn run<R: Threads + Wait + Sync>(
     run_on(rt, alloc, script, disk, Vec::new(alloc))
 }
 
+// Runs the script on the disk that a run which was whole has given back. After another one nothing is run.
+pub(crate) fn run_again<R: Threads + Wait + Sync>(
+    rt: &R,
+    alloc: Global,
+    script: &[u8],
+    left: Left,
+) -> Result<Left, NoMemory>
+    requires short { length script.now < 2 ^ 32 }
+    requires pending { left.status ≡ 0
+        → NoneRemovedAbove ⟦<MemDisk as frs_disk::Disk>⟧ left.disk }
+    ensures { IfOk result (λ left. left.status ≡ 0
+        → NoneRemovedAbove ⟦<MemDisk as frs_disk::Disk>⟧ left.disk) }
+{
+    if left.status != 0 {
+        return Ok(left);
+    }
+    let Left { disk, .. } = left;
+    run_on(rt, alloc, script, disk, Vec::new(alloc))
+}
+
+// The job is done on this disk, and prints this.
+fn prints(alloc: Global, disk: MemDisk, plan: PlainPlan, text: &[u8]) -> Result<bool, NoMemory> {
+    let mut sink = MemSink::of(alloc, Vec::new(alloc))?;
+    let looked = frs_plain(alloc, &plan, disk, &mut sink);
+    Ok(looked.status == 0 && sink.bytes() == text)
+}
+
+// How many changes a text acknowledges.
+pub(crate) fn acks_in(text: &[u8]) -> u64 {
+    text.windows(8)
+        .filter(|part| *part == b"durable ".as_slice())
+        .count() as u64
+}
+
 impl Left {
     pub(crate) fn is(&self, status: u8, text: &[u8]) -> bool {
-        self.status == status && self.sink.bytes() == text
+        self.status == status && self.text() == text
+    }
+
+    // What was printed.
+    pub(crate) fn text(&self) -> &[u8] {
+        self.sink.bytes()
+    }
+
+    // How many calls were made on the disk.
+    pub(crate) fn calls(&self) -> u64 {
+        self.disk.record().len() as u64
+    }
+
+    // The crash leaves a store of which this is printed: its maps, and its numbers.
+    pub(crate) fn leaves(
+        &self,
+        alloc: Global,
+        choice: Choice,
+        texts: (&[u8], &[u8]),
+    ) -> Result<bool, NoMemory> {
+        let (maps, numbers) = texts;
+        Ok(
+            prints(alloc, self.disk.crash(choice)?, PlainPlan::Recover, maps)?
+                && prints(alloc, self.disk.crash(choice)?, PlainPlan::Stat, numbers)?,
+        )
+    }
+
+    // The disk has these files.
+    pub(crate) fn has_files(&self, files: &[(u64, Vec<u8>)]) -> bool {
+        let found = self.disk.files();
+        found.len() == files.len()
+            && found.iter().zip(files).all(|(file, other)| file.0 == other.0
+                && file.1.as_slice() == other.1.as_slice())
     }
 
     // The disk has one file, with these bytes.
-    fn has_segment(&self, bytes: &[u8]) -> bool {
+    pub(crate) fn has_segment(&self, bytes: &[u8]) -> bool {
         match self.disk.files() {
             [file] => file.0 == 1 && file.1.as_slice() == bytes,
             _ => false,
@@ -174,26 +241,33 @@ impl Left {
 
     // Each crash leaves the files that the disk model gives after so many calls, and they show so many puts, at least
     // and at most.
-    fn shows(&self, alloc: Global, calls: u64, least: u32, most: u32) -> Result<bool, NoMemory> {
-        for choice in [
-            Choice::Keep,
-            Choice::Lose,
-            Choice::Fill(0),
-            Choice::Fill(1),
-            Choice::Fill(7),
-        ] {
+    fn shows(&self, alloc: Global, calls: u64, least: u64, most: u64) -> Result<bool, NoMemory> {
+        for choice in CHOICES {
             let left = self.disk.crash(choice)?;
             let expected = left_after(alloc, calls, choice)?;
-            if !is_file(left.files(), &expected) {
+            let puts = puts_seen(alloc, left.files(), b"m k v\n")?;
+            if !is_file(left.files(), &expected) || puts < Some(least) || Some(most) < puts {
                 return Ok(false);
-            }
-            match puts_shown(left.files()) {
-                Some(puts) if least <= puts && puts <= most => {}
-                _ => return Ok(false),
             }
         }
         Ok(true)
     }
+}
+
+// How many entries the files show, if these are the first ones of a dump.
+fn puts_seen(
+    alloc: Global,
+    files: &[(u64, Vec<u8>)],
+    dump: &[u8],
+) -> Result<Option<u64>, NoMemory> {
+    let Some(seen) = seen_in(alloc, files)? else {
+        return Ok(None);
+    };
+    let maps = seen.maps.as_slice();
+    if !dump.starts_with(maps) {
+        return Ok(None);
+    }
+    Ok(Some(maps.iter().filter(|byte| **byte == b'\n').count() as u64))
 }
 
 // There is this one file with the number 1, or none.
@@ -245,34 +319,6 @@ fn left_after(alloc: Global, calls: u64, choice: Choice) -> Result<Option<Vec<u8
             Ok(file)
         }
     }
-}
-
-// How many puts the files show, by the format: none where they aren't those of a run of a put and a get.
-fn puts_shown(files: &[(u64, Vec<u8>)]) -> Option<u32> {
-    match files {
-        [] => Some(0),
-        [file] if file.0 == 1 => puts_in(&file.1),
-        _ => None,
-    }
-}
-
-fn puts_in(bytes: &[u8]) -> Option<u32> {
-    if bytes.len() < 23 || bytes[0] != 1 {
-        return Some(0);
-    }
-    if bytes[1..22] != SEGMENT[1..22] {
-        return None;
-    }
-    // The gates of the three chunks and the end, and how many puts stand before each.
-    for (gate, next, puts) in [(22, 64, 0), (64, 113, 0), (113, 155, 1)] {
-        if *bytes.get(gate)? != 1 {
-            return Some(puts);
-        }
-        if bytes.get(gate..next)? != &SEGMENT[gate..next] {
-            return None;
-        }
-    }
-    if *bytes.get(155)? == 1 { None } else { Some(1) }
 }
 
 // What a run of a put and a get prints where the disk stops after so many calls.
@@ -334,7 +380,7 @@ fn a_stop_or_a_fault_at_each_call_keeps_what_was_acknowledged(rt: HostRuntime) -
 }
 
 // So many puts on keys `a`, `b`, .., each of a value of so many bytes.
-fn puts_of(alloc: Global, puts: u32, len: usize) -> Result<Vec<u8>, NoMemory>
+pub(crate) fn puts_of(alloc: Global, puts: u32, len: usize) -> Result<Vec<u8>, NoMemory>
     requires { puts ≤ 26 }
 {
     let mut script = Vec::new(alloc);
@@ -350,155 +396,52 @@ fn puts_of(alloc: Global, puts: u32, len: usize) -> Result<Vec<u8>, NoMemory>
     Ok(script)
 }
 
-// A number of so many bytes that stands at an offset.
-fn number_at(bytes: &[u8], at: usize, width: usize) -> Option<u64> {
-    let mut number = 0u64;
-    for byte in bytes.get(at..at.checked_add(width)?)? {
-        number = number.checked_mul(256)?.checked_add(u64::from(*byte))?;
-    }
-    Some(number)
-}
-
-// What was read of the files of a store of `puts_of`: the next LSN, and how many puts there are.
-#[derive(Clone, Copy, PartialEq, Eq)]
-struct Read {
-    next: u64,
-    puts: u8,
-}
-
-// The record with this LSN is outside of transactions and names none, and its lowest LSN is that of the first put once
-// there is one, since no key is put twice.
-fn has_head(body: &[u8], lsn: u64) -> Option<bool> {
-    let lowest = if lsn == 1 { 1 } else { 2 };
-    Some(
-        number_at(body, 1, 8)? == 0
-            && number_at(body, 9, 8)? == lowest
-            && number_at(body, 17, 8)? == 0,
-    )
-}
-
-// One record more, where it is a mark or the next put.
-fn read_record(read: Read, body: &[u8], len: usize) -> Option<Read> {
-    let next = read.next.checked_add(1)?;
-    if !has_head(body, read.next)? {
-        return None;
-    }
-    if *body.get(0)? == 7 && body.len() == 25 {
-        return Some(Read { next, ..read });
-    }
-    let is_next = number_at(body, 0, 1)? == 1
-        && body.get(25..28)? == [1, b'm', 1].as_slice()
-        && *body.get(28)? == b'a'.checked_add(read.puts)?
-        && number_at(body, 29, 2)? == len as u64
-        && body.get(31..)?.len() == len
-        && body.get(31..)?.iter().all(|byte| *byte == b'v');
-    if !is_next {
-        return None;
-    }
-    Some(Read {
-        next,
-        puts: read.puts.checked_add(1)?,
-    })
-}
-
-// The chunks of a segment from its first gate on, each of one record, up to a closed gate.
-fn read_chunks(read: Read, bytes: &[u8], len: usize) -> Option<Read> {
-    let mut read = read;
-    let mut at = 22usize;
-    for _ in 0..bytes.len() {
-        if *bytes.get(at)? != 1 {
-            return Some(read);
-        }
-        let body = number_at(bytes, at.checked_add(1)?, 4)? as usize;
-        if number_at(bytes, at.checked_add(5)?, 4)? != 1
-            || number_at(bytes, at.checked_add(9)?, 8)? != read.next
-        {
-            return None;
-        }
-        let start = at.checked_add(17)?;
-        let end = start.checked_add(body)?;
-        read = read_record(read, bytes.get(start..end)?, len)?;
-        at = end;
-    }
-    None
-}
-
-// The open file with this number is the segment that comes next.
-fn has_header(read: Read, number: u64, bytes: &[u8]) -> Option<bool> {
-    Some(
-        bytes.get(1..6)? == &SEGMENT[1..6]
-            && number_at(bytes, 6, 8)? == number
-            && number_at(bytes, 14, 8)? == read.next,
-    )
-}
-
-// The open files are segments that follow each other from LSN 1 on, and their puts are the first ones of the script.
-// The files have the numbers from 1 on, and each but the newest is such a segment and has a record.
-fn read_files(files: &[(u64, Vec<u8>)], len: usize) -> Option<Read> {
-    let mut read = Read { next: 1, puts: 0 };
-    let mut expected = 1u64;
-    let mut newest = false;
-    for (number, bytes) in files {
-        if newest || *number != expected {
-            return None;
-        }
-        let before = read.next;
-        if bytes.len() >= 23 && bytes[0] == 1 {
-            if !has_header(read, *number, bytes)? {
-                return None;
-            }
-            read = read_chunks(read, bytes, len)?;
-        }
-        newest = read.next == before;
-        expected = expected.checked_add(1)?;
-    }
-    Some(read)
-}
-
-// Each crash leaves at least as many puts as were acknowledged, and at most one more.
-fn keeps_acknowledged(left: &Left, len: usize) -> Result<bool, NoMemory> {
-    let acknowledged = left
-        .sink
-        .bytes()
-        .windows(8)
-        .filter(|text| *text == b"durable ".as_slice())
-        .count() as u64;
-    for choice in [
-        Choice::Keep,
-        Choice::Lose,
-        Choice::Fill(0),
-        Choice::Fill(1),
-        Choice::Fill(7),
-    ] {
+// Each crash leaves at least as many puts as were acknowledged, and at most one more, of those whose dump this is.
+fn keeps_acknowledged(alloc: Global, left: &Left, dump: &[u8]) -> Result<bool, NoMemory> {
+    let acknowledged = acks_in(left.text());
+    for choice in CHOICES {
         let image = left.disk.crash(choice)?;
-        match read_files(image.files(), len) {
-            Some(read)
-                if acknowledged <= u64::from(read.puts)
-                    && u64::from(read.puts) <= acknowledged + 1 => {}
-            _ => return Ok(false),
+        let puts = puts_seen(alloc, image.files(), dump)?;
+        if puts < Some(acknowledged) || Some(acknowledged.saturating_add(1)) < puts {
+            return Ok(false);
         }
     }
     Ok(true)
 }
 
+// The entries of `puts_of`, as they are printed.
+fn dump_of(alloc: Global, puts: u32, len: usize) -> Result<Vec<u8>, NoMemory>
+    requires { puts ≤ 26 }
+{
+    let script = puts_of(alloc, puts, len)?;
+    let mut dump = Vec::new(alloc);
+    for line in script.as_slice().split(|byte| *byte == b'\n') {
+        if let Some(entry) = line.strip_prefix(b"put ".as_slice()) {
+            dump.extend_from_slice(entry)?;
+            dump.push(b'\n')?;
+        }
+    }
+    Ok(dump)
+}
+
+// The 17th put is the first of a second segment.
 #[test]
 fn a_log_over_two_segments_keeps_what_was_acknowledged(rt: HostRuntime) -> Result<(), Fail> {
     let alloc = rt.alloc();
     let script = puts_of(alloc, 17, 65_535)?;
+    let dump = dump_of(alloc, 17, 65_535)?;
     let whole = run(&rt, alloc, script.as_slice(), no_fault(alloc))?;
     assert_eq!(rt; whole.status, 0);
     assert_eq!(rt; whole.disk.files().len(), 2);
-    assert!(rt; read_files(whole.disk.files(), 65_535) == Some(Read { next: 20, puts: 17 }));
-    assert!(rt; keeps_acknowledged(&whole, 65_535)?);
-    let calls = whole.disk.record().len() as u64;
-    for calls in 0..calls {
+    assert!(rt; keeps_acknowledged(alloc, &whole, dump.as_slice())?);
+    for calls in 0..whole.calls() {
         let stop = FaultPlan {
             failing: Vec::new(alloc),
             stop_after: Some(calls),
         };
         let left = run(&rt, alloc, script.as_slice(), stop)?;
         assert_eq!(rt; left.status, 3);
-        assert!(rt; keeps_acknowledged(&left, 65_535)?);
+        assert!(rt; keeps_acknowledged(alloc, &left, dump.as_slice())?);
     }
     Ok(())
 }
@@ -531,8 +474,8 @@ const NOT_RUN: [(&[u8], u8, &[u8]); 6] = [
         2,
         b"script 1 line 1 long\n",
     ),
-    (b"begin\ncommit\n", 10, b"later\n"),
-    (b"put m k v\nremove m k\n", 10, b"later\n"),
+    (b"put m k v\nsnapshot\n", 10, b"later\n"),
+    (b"snapshot\ncommit\n", 2, b"script 1 line 2 bad\n"),
 ];
 
 #[test]
@@ -628,39 +571,5 @@ fn a_file_of_commands_that_isnt_there_is_unread(rt: HostRuntime) -> Result<(), F
     let left = run_plan(&rt, alloc, &plan, files, disk, Vec::new(alloc))?;
     assert!(rt; left.is(5, b"file 1 unread\n"));
     assert_eq!(rt; left.disk.files().len(), 0);
-    Ok(())
-}
-
-// A disk with file 1 of the one byte 1.
-fn disk_with_a_file(alloc: Global) -> Result<MemDisk, NoMemory>
-    ensures { IfOk result (NoneRemovedAbove ⟦<MemDisk as frs_disk::Disk>⟧) }
-{
-    let bytes = Vec::from_slice(alloc, &[1])?;
-    MemDisk::of(alloc, vec![in alloc; (1, bytes)]?, no_fault(alloc))
-}
-
-#[test]
-fn a_disk_that_lists_a_file_is_put_off(rt: HostRuntime) -> Result<(), Fail> {
-    let alloc = rt.alloc();
-    let disk = disk_with_a_file(alloc)?;
-    let left = run_on(&rt, alloc, b"put m k v\n", disk, Vec::new(alloc))?;
-    assert!(rt; left.is(10, b"later\n"));
-    assert!(rt; left.has_segment(&[1]));
-    Ok(())
-}
-
-// A run that was whole gives back a disk on which the next one may be made, without a restart. So far it is put off,
-// since the disk lists a file.
-#[test]
-fn a_disk_that_comes_back_is_run_on_again(rt: HostRuntime) -> Result<(), Fail> {
-    let alloc = rt.alloc();
-    let left = run(&rt, alloc, b"put m k v\n", no_fault(alloc))?;
-    if left.status != 0 {
-        panic!(rt; "the first run is whole")
-    }
-    let Left { disk, .. } = left;
-    let again = run_on(&rt, alloc, b"get m k\n", disk, Vec::new(alloc))?;
-    assert!(rt; again.is(10, b"later\n"));
-    assert!(rt; again.has_segment(&SEGMENT));
     Ok(())
 }

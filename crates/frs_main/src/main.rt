@@ -37,7 +37,7 @@ const COMMANDS: &[u8] = b"  STORE               the store: a folder that exists
   demo CLIENTS COUNT  runs scripts that it makes (not yet)
   --help              prints this
   --version           prints the name and the version
-So far run takes one file of put and get commands, and a store without segments.
+So far run takes one file, and no snapshot in it.
 What can't be done yet prints later and ends with status 10.
 ";
 
