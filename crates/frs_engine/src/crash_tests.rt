@@ -73,10 +73,10 @@ const CHANGED_ONCE: &[u8] = b"put m k z\nbegin\nput m k a\nremove m k\ncommit\n"
 const REMOVED_TEXT: &[u8] = b"1 1 put m k z -> done\n1 2 begin -> done\n1 3 put m k a -> done
 1 4 remove m k -> done\n1 5 commit -> done\ndurable 1 1\ndurable 1 5\nstopped disk\n";
 
-// A script that is run on an empty store, where the disk was in the way, what the run prints, and what is printed of the
-// store that a crash leaves: where what is pending is done or filled with ones, and where it isn't. Call 7 would open
-// the file's gate. Call 14 syncs the put behind its closed gate, and call 15 opens this gate, which a crash may leave
-// closed until call 16 syncs it. Call 20 syncs the gate of a second group.
+// A script that is run on an empty store, where the disk was in the way, what the run prints, and what is printed of
+// the store that a crash leaves: where what is pending is done or filled with ones, and where it isn't. Call 7 would
+// open the file's gate. Call 14 syncs the put behind its closed gate, and call 15 opens this gate, which a crash may
+// leave closed until call 16 syncs it. Call 20 syncs the gate of a second group.
 const CUT_SHORT: [(&[u8], Trouble, &[u8], Texts, Texts); 6] = [
     (
         PUT_AND_GET,

@@ -478,20 +478,45 @@ const NOT_RUN: [(&[u8], u8, &[u8]); 6] = [
     (b"snapshot\ncommit\n", 2, b"script 1 line 2 bad\n"),
 ];
 
+// A run of the script is answered so, and makes no call on the disk.
+fn is_not_run<R: Threads + Wait + Sync>(
+    rt: &R,
+    alloc: Global,
+    script: &[u8],
+    status: u8,
+    text: &[u8],
+) -> Result<bool, NoMemory> {
+    let left = run(rt, alloc, script, no_fault(alloc))?;
+    Ok(left.is(status, text) && left.calls() == 0)
+}
+
+// A good line, and one whose value is too long.
+fn long_second_line(alloc: Global) -> Result<Vec<u8>, NoMemory> {
+    let mut script = Vec::new(alloc);
+    script.extend_from_slice(b"put m k v\n")?;
+    script.extend_from_slice(&puts_of(alloc, 1, 65_536)?)?;
+    Ok(script)
+}
+
+// One snapshot more than a script may have.
+fn many_snapshots(alloc: Global) -> Result<Vec<u8>, NoMemory> {
+    let mut script = Vec::new(alloc);
+    for _ in 0..65 {
+        script.extend_from_slice(b"snapshot\n")?;
+    }
+    Ok(script)
+}
+
 #[test]
 fn what_cant_be_run_is_answered_so_and_changes_nothing(rt: HostRuntime) -> Result<(), Fail> {
     let alloc = rt.alloc();
     for (script, status, text) in NOT_RUN {
-        let left = run(&rt, alloc, script, no_fault(alloc))?;
-        assert!(rt; left.is(status, text));
-        assert_eq!(rt; left.disk.record().len(), 0);
+        assert!(rt; is_not_run(&rt, alloc, script, status, text)?);
     }
-    let mut long = Vec::new(alloc);
-    long.extend_from_slice(b"put m k v\n")?;
-    long.extend_from_slice(&puts_of(alloc, 1, 65_536)?)?;
-    let left = run(&rt, alloc, long.as_slice(), no_fault(alloc))?;
-    assert!(rt; left.is(2, b"script 1 line 2 long\n"));
-    assert_eq!(rt; left.disk.record().len(), 0);
+    let long = long_second_line(alloc)?;
+    assert!(rt; is_not_run(&rt, alloc, long.as_slice(), 2, b"script 1 line 2 long\n")?);
+    let many = many_snapshots(alloc)?;
+    assert!(rt; is_not_run(&rt, alloc, many.as_slice(), 8, b"script 1 line 65 limit\n")?);
     Ok(())
 }
 
